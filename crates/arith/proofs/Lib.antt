@@ -1,0 +1,5 @@
+pub mod Ring
+pub mod Order
+pub mod Poly
+pub mod Solve
+pub mod Sized

@@ -1,0 +1,57 @@
+-- The largest numbers. All other bounds are computed from these.
+use mathlib.Core.Path.{_≡_}
+use Prim.Native.Nat.{ℕ, _+_, _-_, _*_, _^_, _≤_, _<_}
+use lib.IntN.{ℤ, pos}
+use Rattle.arith.specs.Bounds.{Short}
+use Rattle.plane.specs.declared.types.Plane.{Plane}
+use Rattle.plane.specs.declared.types.Place.{Place}
+use Rattle.plane.specs.declared.types.Shift.{Shift}
+
+-- a, b and c of a plane are from -6 to 6
+abbrev pub slope-limit : ℕ
+slope-limit = 6
+
+-- the workshop ends at 16,384 in all six directions
+abbrev pub reach : ℕ
+reach = 16384
+
+-- d of a plane is from -294,912 to 294,912: each plane that has a place in the workshop is among these
+abbrev pub offset-limit : ℕ
+offset-limit = 3 * slope-limit * reach
+
+-- x, y and z of a place are below 2^56 in size, and w is below 2^42
+abbrev pub coordinate-limit : ℕ
+coordinate-limit = 2 ^ 56 - 1
+
+abbrev pub scale-limit : ℕ
+scale-limit = 2 ^ 42 - 1
+
+-- a plane in range: its slopes are not all 0
+pub record Fits-plane (p : Plane) : Type 0 where
+  pub a : Short (p .a) slope-limit
+  pub b : Short (p .b) slope-limit
+  pub c : Short (p .c) slope-limit
+  pub d : Short (p .d) offset-limit
+  pub sloped : (p .a ≡ pos 0) × (p .b ≡ pos 0) × (p .c ≡ pos 0) → ⊥
+
+-- a place in range
+pub record Small-place (q : Place) : Type 0 where
+  pub x : Short (q .x) coordinate-limit
+  pub y : Short (q .y) coordinate-limit
+  pub z : Short (q .z) coordinate-limit
+  pub w : q .w ≤ scale-limit
+  pub real : 0 < q .w
+
+-- a shift in range: numbers of a text are
+pub record Fits-shift (t : Shift) : Type 0 where
+  pub x : Short (t .x) offset-limit
+  pub y : Short (t .y) offset-limit
+  pub z : Short (t .z) offset-limit
+
+-- the determinant of three rows of slopes: six products of three
+abbrev pub determinant-limit : ℕ
+determinant-limit = 6 * slope-limit ^ 3
+
+-- the same with a column of offsets in the place of one of slopes
+abbrev pub corner-limit : ℕ
+corner-limit = 6 * (offset-limit * slope-limit ^ 2)

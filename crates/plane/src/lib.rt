@@ -1,0 +1,4 @@
+//! Planes and places: sides, meets of three planes, moves, all exact in signed 64 bits.
+
+pub mod sides;
+pub mod types;
