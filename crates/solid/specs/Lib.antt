@@ -1,0 +1,5 @@
+pub mod Shapes
+pub mod Models
+pub mod Laws
+pub mod Steps
+pub mod Examples

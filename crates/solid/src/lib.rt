@@ -1,0 +1,3 @@
+//! Shapes and models: what they are, when a model is right, and a shape's value at a place.
+
+pub mod types;
