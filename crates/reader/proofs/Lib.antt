@@ -1,0 +1,5 @@
+pub mod Words
+pub mod Stacks
+pub mod Grow
+pub mod Turn
+pub mod Values

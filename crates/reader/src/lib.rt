@@ -1,0 +1,7 @@
+//! Bytes to steps: reads a text, or says which fault comes first.
+
+mod machine;
+mod spelling;
+mod stack;
+mod tokens;
+pub mod types;

@@ -1,0 +1,93 @@
+//! The words and numbers of a text.
+
+ghost use mathlib.Core.Path.{_≡_};
+ghost use Prim.Native.Nat.{_<_, _≤_};
+ghost use lib.IntN.{ℤ, pos, negℤ};
+ghost use lib.ListN.{length, drop};
+ghost use Rattle.grammar.specs.Grammar.{signed, digit};
+ghost use Rattle.grammar.specs.Tokens.{inTok, Starts, tokAt};
+ghost use Rattle.reader.specs.Values.{readOn, Told, Value};
+use super::spelling::is_alnum;
+
+pub(crate) fn in_token(b: u8) -> bool
+    ensures { λ r. ⌜ r ≡ inTok b ⌝ }
+{
+    is_alnum(b) || b == b'-'
+}
+
+/// Where each word and number of the text begins, in their order; nothing if the steps do not suffice.
+pub fn token_starts(text: &[u8], steps: &mut [u64]) -> Option<usize>
+    ensures { λ r. ⌜ Starts r (now (text .entry)) (now (steps .exit)) ⌝ }
+{
+    let mut inside = false;
+    let mut count = 0;
+    for i in 0..text.len() {
+        let token = in_token(text[i]);
+        if token && !inside {
+            if count == steps.len() {
+                return None;
+            }
+            steps[count] = i as u64;
+            count += 1;
+        }
+        inside = token;
+    }
+    Some(count)
+}
+
+pub(crate) fn is_digit(b: u8) -> bool
+    ensures { λ r. ⌜ r ≡ digit b ⌝ }
+{
+    b'0' <= b && b <= b'9'
+}
+
+/// The number that the digits from a byte on write, if it is in range.
+pub(crate) fn magnitude(text: &[u8], from: usize) -> Option<u64>
+    requires { ⌜ from ≤ length (now text) ⌝ }
+    ensures { λ r. ⌜ Told r (readOn 0 (drop from (now (text .entry)))) ⌝ }
+{
+    let mut v: u64 = 0;
+    for i in from..text.len() {
+        let b = text[i];
+        if !is_digit(b) {
+            return Some(v);
+        }
+        v = v * 10 + u64::from(b - b'0');
+        if v > 294912 {
+            return None;
+        }
+    }
+    Some(v)
+}
+
+pub(crate) fn plain(v: u64) -> i64
+    requires { ⌜ v ≤ 294912 ⌝ }
+    ensures { λ r. ⌜ r ≡ pos v ⌝ }
+{
+    v as i64
+}
+
+pub(crate) fn minus(v: u64) -> i64
+    requires { ⌜ v ≤ 294912 ⌝ }
+    ensures { λ r. ⌜ r ≡ negℤ (pos v) ⌝ }
+{
+    -(v as i64)
+}
+
+/// The number that stands at a byte, if it is in range.
+pub fn number_at(text: &[u8], at: usize) -> Option<i64>
+    requires { ⌜ at < length (now text) ⌝ }
+    ensures { λ r. ⌜ ((z : ℤ) → tokAt (drop at (now (text .entry))) ≡ signed z → Value r z) ⌝ }
+{
+    if text[at] == b'-' {
+        match magnitude(text, at + 1) {
+            Some(v) => Some(minus(v)),
+            None => None,
+        }
+    } else {
+        match magnitude(text, at) {
+            Some(v) => Some(plain(v)),
+            None => None,
+        }
+    }
+}
