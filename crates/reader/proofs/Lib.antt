@@ -3,3 +3,5 @@ pub mod Stacks
 pub mod Grow
 pub mod Turn
 pub mod Values
+pub mod Spans
+pub mod Ranks

@@ -1,3 +1,4 @@
 pub mod Stack
 pub mod Reading
-pub mod Values
+pub mod Names
+pub mod Layout

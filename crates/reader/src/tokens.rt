@@ -6,7 +6,11 @@ ghost use lib.IntN.{ℤ, pos, negℤ};
 ghost use lib.ListN.{length, drop};
 ghost use Rattle.grammar.specs.Grammar.{signed, digit};
 ghost use Rattle.grammar.specs.Tokens.{inTok, Starts, tokAt};
-ghost use Rattle.reader.specs.Values.{readOn, Told, Value};
+ghost use Rattle.grammar.specs.Values.{readOn, Told, Value};
+ghost use Rattle.std.specs.Holes.{between};
+ghost use lib.ListN.{getD};
+ghost use Prim.Native.Nat.{ℕ};
+ghost use Rattle.reader.specs.Names.{words-at, rank};
 use super::spelling::is_alnum;
 
 pub(crate) fn in_token(b: u8) -> bool
@@ -90,4 +94,41 @@ pub fn number_at(text: &[u8], at: usize) -> Option<i64>
             None => None,
         }
     }
+}
+
+/// Where the word or number that begins at a byte ends.
+fn token_end(text: &[u8], from: usize) -> usize
+    requires { ⌜ from ≤ length (now text) ⌝ }
+    ensures low { λ r. ⌜ from ≤ r ⌝ }
+    ensures high { λ r. ⌜ r ≤ length (now (text .entry)) ⌝ }
+    ensures is { λ r. ⌜ between from r (now (text .entry)) ≡ tokAt (drop from (now (text .entry))) ⌝ }
+{
+    for i in from..text.len() {
+        if !in_token(text[i]) {
+            return i;
+        }
+    }
+    text.len()
+}
+
+/// The word or number that begins at a byte.
+pub(crate) fn token_at(text: &[u8], from: usize) -> &[u8]
+    requires { ⌜ from ≤ length (now text) ⌝ }
+    ensures { λ r. ⌜ now r ≡ tokAt (drop from (now (text .entry))) ⌝ }
+{
+    let end = token_end(text, from);
+    &text[from..end]
+}
+
+/// Which of the names that begin at some bytes is this word: the first, or none.
+pub(crate) fn find_name(text: &[u8], names: &[u64], word: &[u8]) -> Option<usize>
+    requires { ⌜ ((k : ℕ) → k < length (now names) → getD (now names) k 0 ≤ length (now text)) ⌝ }
+    ensures { λ r. ⌜ r ≡ rank (words-at (now (text .entry)) (now (names .entry))) (now (word .entry)) ⌝ }
+{
+    for i in 0..names.len() {
+        if token_at(text, names[i] as usize) == word {
+            return Some(i);
+        }
+    }
+    None
 }

@@ -31,11 +31,9 @@ pub enum Verdict {
     Room,
 }
 
-/// What reading gave: how many words and numbers a text has, where it goes wrong, or which lent slice is too short.
-#[derive(Clone, Copy, PartialEq, Debug)]
-pub enum Outcome {
-    Lines(usize),
-    Wrong(usize),
-    Stack,
-    Steps,
+/// What a text that is taken has: how many steps its parts have in all, and how many questions it asks.
+#[derive(Clone, Copy)]
+pub struct Counts {
+    pub used: usize,
+    pub asked: usize,
 }

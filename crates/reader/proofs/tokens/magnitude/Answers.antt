@@ -3,7 +3,7 @@ use Prim.Native.Nat.{ℕ, _+_, _*_, _-_, _<_, _≤_}
 use lib.ListN.{length, drop, getD}
 use native.Mathlib.Omega.{arith}
 use Rattle.std.proofs.shelf.Lists.{at-drop-all}
-use Rattle.reader.specs.Values.{readOn}
+use Rattle.grammar.specs.Values.{readOn}
 use Rattle.reader.proofs.Values.{read-more, read-stop, read-ge}
 use Rattle.reader.proofs.tokens.magnitude.Needs as need
 

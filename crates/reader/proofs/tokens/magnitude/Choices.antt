@@ -1,7 +1,7 @@
 use mathlib.Core.Path.{_≡_}
 use Prim.Native.Nat.{_≤_}
 use lib.ListN.{length, drop}
-use Rattle.reader.specs.Values.{readOn}
+use Rattle.grammar.specs.Values.{readOn}
 use Rattle.reader.proofs.tokens.magnitude.Given as given
 
 abbrev pub Inv-loop-i : given.InvT-loop-i

@@ -6,7 +6,7 @@ use mir.Syntax.{w64}
 use mir.Val.{SFits}
 use Rattle.std.proofs.shelf.Signed.{toZ-ofZ}
 use lib.IntN.{ℤ, pos, negsuc, negℤ}
-use Rattle.reader.specs.Values.{size}
+use Rattle.grammar.specs.Values.{size}
 use Rattle.reader.proofs.Values.{first-minus, first-plain}
 use Rattle.reader.proofs.tokens.number_at.Needs as need
 
