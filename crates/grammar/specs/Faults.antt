@@ -91,9 +91,13 @@ scan read names (shape ∷ rs) (t ∷ ts) = cond (same (t .word) (codes "box")) 
 scan read names (measure ∷ rs) (t ∷ ts) = if-so (beyond (t .word)) 4 t ++ scan read names rs ts
 scan read names (scale ∷ rs) (t ∷ ts) = if-so (no-scale (t .word)) 4 t ++ scan read names rs ts
 
--- the faults in the words of bytes of which so many count as read: a word that ends behind them is not looked at
+-- the words of bytes of which so many count as read: a word that ends behind them is not looked at
+abbrev pub looked : ℕ → List ℕ → List Token
+looked read bs = kept-by (λ t. leb (t .start + length (t .word)) read) (tokens bs)
+
+-- the faults in them
 abbrev pub word-faults : ℕ → List ℕ → List Fault
-word-faults read bs = scan read [] [] (kept-by (λ t. leb (t .start + length (t .word)) read) (tokens bs))
+word-faults read bs = scan read [] [] (looked read bs)
 
 -- how many bytes of a text are read
 abbrev pub most-bytes : ℕ

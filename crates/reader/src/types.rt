@@ -37,3 +37,35 @@ pub struct Counts {
     pub used: usize,
     pub asked: usize,
 }
+
+/// Why a text is refused, and at which byte.
+#[derive(Clone, Copy, PartialEq, Debug)]
+pub enum Refusal {
+    /// No text goes on so, or a word that is not taken yet.
+    Grammar(usize),
+    /// A name that is twice, or isn't there yet.
+    Name(usize),
+    /// Too many bytes or parts.
+    Limit(usize),
+    /// A number out of range.
+    Range(usize),
+}
+
+/// What is expected of the next word.
+#[derive(Clone, Copy)]
+pub enum Expect {
+    AtLine,
+    AtNewName,
+    AtShape,
+    InBox(usize),
+    AtUsedName,
+    InPlace(usize),
+}
+
+/// What a word is found to be: wrong, or right, and then what is expected; or nothing behind it is looked at.
+#[derive(Clone, Copy)]
+pub enum Look {
+    Wrong(Refusal),
+    Next(Expect),
+    Done,
+}

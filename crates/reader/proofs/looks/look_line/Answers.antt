@@ -1,0 +1,9 @@
+use mathlib.Core.Path.{_≡_, sym}
+use native.Mathlib.Omega.{arith}
+use Rattle.grammar.specs.Faults.{token}
+use Rattle.reader.proofs.Scans.{part-wrong}
+use Rattle.reader.proofs.looks.look_line.Needs as need
+
+pub returns-then-read-at-ge5 : need.returns-then-read-at-ge5
+returns-then-read-at-ge5 c = λ names l ts.
+    (_, part-wrong (c .args .read) names (token (c .args .at) (c .args .word .now)) ts (sym (c .if-same-word .ensures tt)) (omega arith) (omega arith))
