@@ -7,3 +7,4 @@ pub mod Spans
 pub mod Ranks
 pub mod Letters
 pub mod Scans
+pub mod Checks

@@ -1,5 +1,6 @@
 //! Bytes to steps: reads a text, or says which fault comes first.
 
+mod check;
 mod looks;
 mod machine;
 mod spelling;
