@@ -1,7 +1,7 @@
 -- The scan of a text's words, turn by turn.
 use mathlib.Core.Path.{_≡_, refl, sym, _∙_, ap, subst}
 use mathlib.Core.List.{List, [], _∷_, _++_, map, append-assoc, append-nil}
-use mathlib.Core.Bool.{Bool, true, false, cond, not, _&&_}
+use mathlib.Core.Bool.{Bool, true, false, cond}
 use Prim.Native.Nat.{ℕ, zero, suc, _+_, _-_, _≤_, _<_}
 use native.Mathlib.Omega.{arith}
 use native.Mathlib.Nat.{sub-zero}
@@ -10,11 +10,10 @@ use mathlib.Core.Logic.{_≢_}
 use lib.Seq.{getD-set-same, getD-set-other}
 use lib.Dec.{leb}
 use lib.ListN.{length, getD, take, drop, set}
-use Rattle.std.specs.shelf.Lists.{kept-by, All}
-use Rattle.std.proofs.shelf.Elements.{all-append, all-weaker, all-getD}
+use Rattle.std.specs.shelf.Lists.{kept-by}
 use Rattle.std.proofs.shelf.Lists.{length-take, getD-take, drop-more, drop-all, take-more-set, map-append}
 use Rattle.std.proofs.shelf.Tests.{cond-true, cond-false}
-use Rattle.grammar.specs.Tokens.{tokAt, startsFrom, inTok, once-if}
+use Rattle.grammar.specs.Tokens.{tokAt, startsFrom}
 use Rattle.grammar.specs.Faults.{Fault, Token, token, tokens, Role, scan, looked, word-faults}
 use Rattle.reader.specs.declared.types.Expect.{Expect}
 use Rattle.reader.specs.declared.types.Expect.the-variants.{AtLine, AtNewName, AtShape, InBox, AtUsedName, InPlace}
@@ -33,26 +32,9 @@ rest-of bs read ps = kept-by (whole read) (map (λ p. token p (tokAt (drop p bs)
 
 -- what a turn of the loop keeps: the faults and names of all words are those so far and those of the rest
 pub record Scanned (bs : List ℕ) (read : ℕ) (names : List ℕ) (parts : ℕ) (e : Expect) (ps : List ℕ) : Type 0 where
-  pub faults : scan read (words-at bs (take parts names)) (expected e) (rest-of bs read ps) ≡ word-faults read bs
+  pub faults : scan (words-at bs (take parts names)) (expected e) (rest-of bs read ps) ≡ word-faults read bs
   pub named : words-at bs (take parts names) ++ named-in (expected e) (rest-of bs read ps) ≡ named-in [] (looked read bs)
   pub inside : (k : ℕ) → k < parts → getD names k 0 < length bs
-
--- a word begins within the bytes
-starts-below : (t : Bool) (i : ℕ) (ys : List ℕ) → All (λ p. p < i + length ys) (startsFrom t i ys)
-starts-below t i [] = tt
-starts-below t i (b ∷ ys) =
-    all-append (λ p. p < i + length (b ∷ ys)) (once-if (not t && inTok b) i) (startsFrom (inTok b) (suc i) ys) (one (not t && inTok b))
-    (all-weaker (λ p. p < suc i + length ys) (λ p. p < i + length (b ∷ ys)) (λ p h. omega arith) (startsFrom (inTok b) (suc i) ys) (starts-below (inTok b) (suc i) ys))
-  where
-    one : (u : Bool) → All (λ p. p < i + length (b ∷ ys)) (once-if u i)
-    one true = (omega arith, tt)
-    one false = tt
-
-pub starts-inside : (bs ps : List ℕ) (k : ℕ) → ps ≡ startsFrom false 0 bs → k < length ps → getD ps k 0 < length bs
-starts-inside bs ps k e h =
-    let a : All (λ p. p < 0 + length bs) ps = subst (λ (l : List ℕ). All (λ p. p < 0 + length bs) l) (sym e) (starts-below false 0 bs) in
-    let b : getD ps k 0 < 0 + length bs = all-getD (λ p. p < 0 + length bs) ps k 0 h a in
-    omega arith
 
 -- names with one more, as the scan counts them
 grown : (e : Expect) (ns : List (List ℕ)) (w : List ℕ) → with-name e ns w ≡ ns ++ with-name e [] w
@@ -75,7 +57,7 @@ module _ (bs : List ℕ) (read : ℕ) (names : List ℕ) (parts : ℕ) (e : Expe
   turn-skip f =
       let r = here ∙ cond-false (whole read word) _ _ f in
       record {
-        faults = ap (scan read (words-at bs (take parts names)) (expected e)) (sym r) ∙ inv .faults;
+        faults = ap (scan (words-at bs (take parts names)) (expected e)) (sym r) ∙ inv .faults;
         named = ap (λ (l : List Token). words-at bs (take parts names) ++ named-in (expected e) l) (sym r) ∙ inv .named;
         inside = inv .inside
       }
@@ -84,14 +66,14 @@ module _ (bs : List ℕ) (read : ℕ) (names : List ℕ) (parts : ℕ) (e : Expe
   seen f = here ∙ cond-true (whole read word) _ _ f
 
   -- a word that is right, with the names after it
-  pub turn-next : (f : Expect) (names′ : List ℕ) (parts′ : ℕ) → whole read word ≡ true → Looked (Next f) read e (words-at bs (take parts names)) word →
+  pub turn-next : (f : Expect) (names′ : List ℕ) (parts′ : ℕ) → whole read word ≡ true → Looked (Next f) e (words-at bs (take parts names)) word →
       words-at bs (take parts′ names′) ≡ with-name e (words-at bs (take parts names)) (word .word) → ((j : ℕ) → j < parts′ → getD names′ j 0 < length bs) →
       Scanned bs read names′ parts′ f (drop (k + 1) ps)
   turn-next f names′ parts′ g l n i =
       let ns = words-at bs (take parts names) in
       let rest = rest-of bs read (drop (k + 1) ps) in
       record {
-        faults = ap (λ (ms : List (List ℕ)). scan read ms (expected f) rest) n ∙ sym (l rest .0) ∙ ap (scan read ns (expected e)) (sym (seen g)) ∙ inv .faults;
+        faults = ap (λ (ms : List (List ℕ)). scan ms (expected f) rest) n ∙ sym (l rest .0) ∙ ap (scan ns (expected e)) (sym (seen g)) ∙ inv .faults;
         named =
             ap (λ (ms : List (List ℕ)). ms ++ named-in (expected f) rest) (n ∙ grown e ns (word .word)) ∙ append-assoc ns (with-name e [] (word .word)) (named-in (expected f) rest)
             ∙ ap (λ (ms : List (List ℕ)). ns ++ ms) (sym (l rest .1)) ∙ ap (λ (ts : List Token). ns ++ named-in (expected e) ts) (sym (seen g)) ∙ inv .named;
@@ -99,19 +81,19 @@ module _ (bs : List ℕ) (read : ℕ) (names : List ℕ) (parts : ℕ) (e : Expe
       }
 
   -- a word that is wrong
-  pub turn-wrong : (r : Refusal) → whole read word ≡ true → Looked (Wrong r) read e (words-at bs (take parts names)) word → (rest : List Fault) × (word-faults read bs ≡ told r ∷ rest)
+  pub turn-wrong : (r : Refusal) → whole read word ≡ true → Looked (Wrong r) e (words-at bs (take parts names)) word → (rest : List Fault) × (word-faults read bs ≡ told r ∷ rest)
   turn-wrong r g l =
       let rest = rest-of bs read (drop (k + 1) ps) in
-      (l rest .0, sym (inv .faults) ∙ ap (scan read (words-at bs (take parts names)) (expected e)) (seen g) ∙ l rest .1)
+      (l rest .0, sym (inv .faults) ∙ ap (scan (words-at bs (take parts names)) (expected e)) (seen g) ∙ l rest .1)
 
   -- a word behind which nothing is looked at
-  pub turn-done : whole read word ≡ true → Looked Done read e (words-at bs (take parts names)) word →
+  pub turn-done : whole read word ≡ true → Looked Done e (words-at bs (take parts names)) word →
       (word-faults read bs ≡ []) × (words-at bs (take parts names) ≡ named-in [] (looked read bs))
   turn-done g l =
       let ns = words-at bs (take parts names) in
       let rest = rest-of bs read (drop (k + 1) ps) in
       (
-        sym (inv .faults) ∙ ap (scan read ns (expected e)) (seen g) ∙ l rest .0,
+        sym (inv .faults) ∙ ap (scan ns (expected e)) (seen g) ∙ l rest .0,
         sym (append-nil ns) ∙ ap (λ (ms : List (List ℕ)). ns ++ ms) (sym (l rest .1)) ∙ ap (λ (ts : List Token). ns ++ named-in (expected e) ts) (sym (seen g)) ∙ inv .named
       )
 
@@ -122,11 +104,11 @@ turn-over bs read names parts e ps k h inv =
     let ns = words-at bs (take parts names) in
     let r : rest-of bs read (drop k ps) ≡ [] = ap (rest-of bs read) (drop-all k ps h) in
     (
-      sym (inv .faults) ∙ ap (scan read ns (expected e)) r ∙ scan-none (expected e) ns,
+      sym (inv .faults) ∙ ap (scan ns (expected e)) r ∙ scan-none (expected e) ns,
       sym (append-nil ns) ∙ ap (λ (ms : List (List ℕ)). ns ++ ms) (sym (named-none (expected e))) ∙ ap (λ (ts : List Token). ns ++ named-in (expected e) ts) (sym r) ∙ inv .named
     )
   where
-    scan-none : (rs : List Role) (ms : List (List ℕ)) → scan read ms rs [] ≡ []
+    scan-none : (rs : List Role) (ms : List (List ℕ)) → scan ms rs [] ≡ []
     scan-none [] ms = refl
     scan-none (r ∷ rs) ms = refl
 
@@ -137,7 +119,7 @@ turn-over bs read names parts e ps k h inv =
 -- the first turn
 pub turn-first : (bs : List ℕ) (read : ℕ) (names ps : List ℕ) → ps ≡ startsFrom false 0 bs → Scanned bs read names 0 AtLine ps
 turn-first bs read names ps e = record {
-    faults = ap (λ (l : List ℕ). scan read [] [] (rest-of bs read l)) e;
+    faults = ap (λ (l : List ℕ). scan [] [] (rest-of bs read l)) e;
     named = ap (λ (l : List ℕ). named-in [] (rest-of bs read l)) e;
     inside = λ k h. absurd (omega arith)
   }

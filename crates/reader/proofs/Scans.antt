@@ -24,38 +24,37 @@ pub one-of : (k : ℕ) → 0 < k → replicate k measure ≡ measure ∷ replica
 one-of zero h = absurd (omega arith)
 one-of (suc k) h = ap (λ (n : ℕ). measure ∷ replicate n measure) (sym (sub-one (suc k)))
 
-module _ (read : ℕ) (names : List (List ℕ)) (t : Token) (ts : List Token) where
+module _ (names : List (List ℕ)) (t : Token) (ts : List Token) where
   -- a number, with others behind it
   module _ (rs : List Role) where
-    pub number-wrong : beyond (t .word) ≡ true → scan read names (measure ∷ rs) (t ∷ ts) ≡ fault 4 (t .start) ∷ scan read names rs ts
-    number-wrong e = so-wrong (beyond (t .word)) 4 t (scan read names rs ts) e
+    pub number-wrong : beyond (t .word) ≡ true → scan names (measure ∷ rs) (t ∷ ts) ≡ fault 4 (t .start) ∷ scan names rs ts
+    number-wrong e = so-wrong (beyond (t .word)) 4 t (scan names rs ts) e
 
-    pub number-right : beyond (t .word) ≡ false → scan read names (measure ∷ rs) (t ∷ ts) ≡ scan read names rs ts
-    number-right e = so-right (beyond (t .word)) 4 t (scan read names rs ts) e
+    pub number-right : beyond (t .word) ≡ false → scan names (measure ∷ rs) (t ∷ ts) ≡ scan names rs ts
+    number-right e = so-right (beyond (t .word)) 4 t (scan names rs ts) e
 
-  pub scale-wrong : no-scale (t .word) ≡ true → scan read names (scale ∷ []) (t ∷ ts) ≡ fault 4 (t .start) ∷ scan read names [] ts
-  scale-wrong e = so-wrong (no-scale (t .word)) 4 t (scan read names [] ts) e
+  pub scale-wrong : no-scale (t .word) ≡ true → scan names (scale ∷ []) (t ∷ ts) ≡ fault 4 (t .start) ∷ scan names [] ts
+  scale-wrong e = so-wrong (no-scale (t .word)) 4 t (scan names [] ts) e
 
-  pub scale-right : no-scale (t .word) ≡ false → scan read names (scale ∷ []) (t ∷ ts) ≡ scan read names [] ts
-  scale-right e = so-right (no-scale (t .word)) 4 t (scan read names [] ts) e
+  pub scale-right : no-scale (t .word) ≡ false → scan names (scale ∷ []) (t ∷ ts) ≡ scan names [] ts
+  scale-right e = so-right (no-scale (t .word)) 4 t (scan names [] ts) e
 
-  pub new-wrong : isName (t .word) ≡ true → oneOf names (t .word) ≡ true → scan read names of-part (t ∷ ts) ≡ fault 2 (t .start) ∷ scan read (names ++ t .word ∷ []) (shape ∷ []) ts
-  new-wrong e f = so-wrong (isName (t .word) && oneOf names (t .word)) 2 t (scan read (names ++ t .word ∷ []) (shape ∷ []) ts) (and-from (isName (t .word)) (oneOf names (t .word)) e f)
+  pub new-wrong : isName (t .word) ≡ true → oneOf names (t .word) ≡ true → scan names of-part (t ∷ ts) ≡ fault 2 (t .start) ∷ scan (names ++ t .word ∷ []) (shape ∷ []) ts
+  new-wrong e f = so-wrong (isName (t .word) && oneOf names (t .word)) 2 t (scan (names ++ t .word ∷ []) (shape ∷ []) ts) (and-from (isName (t .word)) (oneOf names (t .word)) e f)
 
-  pub new-right : (isName (t .word) && oneOf names (t .word)) ≡ false → scan read names of-part (t ∷ ts) ≡ scan read (names ++ t .word ∷ []) (shape ∷ []) ts
-  new-right e = so-right (isName (t .word) && oneOf names (t .word)) 2 t (scan read (names ++ t .word ∷ []) (shape ∷ []) ts) e
+  pub new-right : (isName (t .word) && oneOf names (t .word)) ≡ false → scan names of-part (t ∷ ts) ≡ scan (names ++ t .word ∷ []) (shape ∷ []) ts
+  new-right e = so-right (isName (t .word) && oneOf names (t .word)) 2 t (scan (names ++ t .word ∷ []) (shape ∷ []) ts) e
 
-  pub used-wrong : isName (t .word) ≡ true → oneOf names (t .word) ≡ false → scan read names of-place (t ∷ ts) ≡ fault 2 (t .start) ∷ scan read names (measure ∷ measure ∷ measure ∷ scale ∷ []) ts
+  pub used-wrong : isName (t .word) ≡ true → oneOf names (t .word) ≡ false → scan names of-place (t ∷ ts) ≡ fault 2 (t .start) ∷ scan names (measure ∷ measure ∷ measure ∷ scale ∷ []) ts
   used-wrong e f =
-      so-wrong (isName (t .word) && not (oneOf names (t .word))) 2 t (scan read names (measure ∷ measure ∷ measure ∷ scale ∷ []) ts)
+      so-wrong (isName (t .word) && not (oneOf names (t .word))) 2 t (scan names (measure ∷ measure ∷ measure ∷ scale ∷ []) ts)
       (and-from (isName (t .word)) (not (oneOf names (t .word))) e (ap not f))
 
-  pub used-right : (isName (t .word) && not (oneOf names (t .word))) ≡ false → scan read names of-place (t ∷ ts) ≡ scan read names (measure ∷ measure ∷ measure ∷ scale ∷ []) ts
-  used-right e = so-right (isName (t .word) && not (oneOf names (t .word))) 2 t (scan read names (measure ∷ measure ∷ measure ∷ scale ∷ []) ts) e
+  pub used-right : (isName (t .word) && not (oneOf names (t .word))) ≡ false → scan names of-place (t ∷ ts) ≡ scan names (measure ∷ measure ∷ measure ∷ scale ∷ []) ts
+  used-right e = so-right (isName (t .word) && not (oneOf names (t .word))) 2 t (scan names (measure ∷ measure ∷ measure ∷ scale ∷ []) ts) e
 
   -- the part that is one too many
-  pub part-wrong : same (t .word) (codes "part") ≡ true → most-parts ≤ length names → t .start + 5 ≤ read → scan read names [] (t ∷ ts) ≡ fault 3 (t .start) ∷ scan read names of-part ts
-  part-wrong e f g =
+  pub part-wrong : same (t .word) (codes "part") ≡ true → most-parts ≤ length names → scan names [] (t ∷ ts) ≡ fault 3 (t .start) ∷ scan names of-part ts
+  part-wrong e f =
       cond-true (same (t .word) (codes "part")) _ _ e
-      ∙ so-wrong (leb most-parts (length names) && leb (t .start + 5) read) 3 t (scan read names of-part ts)
-          (and-from (leb most-parts (length names)) (leb (t .start + 5) read) (le-leb _ _ f) (le-leb _ _ g))
+      ∙ so-wrong (leb most-parts (length names)) 3 t (scan names of-part ts) (le-leb _ _ f)

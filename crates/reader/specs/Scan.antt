@@ -54,12 +54,12 @@ named-in (measure ∷ rs) (t ∷ ts) = named-in rs ts
 named-in (scale ∷ rs) (t ∷ ts) = named-in rs ts
 
 -- what a word does, whatever stands behind it
-abbrev pub Looked : Look → ℕ → Expect → List (List ℕ) → Token → Type 0
-Looked (Wrong r) read e names t = (ts : List Token) → (rest : List Fault) × (scan read names (expected e) (t ∷ ts) ≡ told r ∷ rest)
-Looked (Next f) read e names t =
+abbrev pub Looked : Look → Expect → List (List ℕ) → Token → Type 0
+Looked (Wrong r) e names t = (ts : List Token) → (rest : List Fault) × (scan names (expected e) (t ∷ ts) ≡ told r ∷ rest)
+Looked (Next f) e names t =
     (ts : List Token) →
-    (scan read names (expected e) (t ∷ ts) ≡ scan read (with-name e names (t .word)) (expected f) ts) × (named-in (expected e) (t ∷ ts) ≡ with-name e [] (t .word) ++ named-in (expected f) ts)
-Looked Done read e names t = (ts : List Token) → (scan read names (expected e) (t ∷ ts) ≡ []) × (named-in (expected e) (t ∷ ts) ≡ [])
+    (scan names (expected e) (t ∷ ts) ≡ scan (with-name e names (t .word)) (expected f) ts) × (named-in (expected e) (t ∷ ts) ≡ with-name e [] (t .word) ++ named-in (expected f) ts)
+Looked Done e names t = (ts : List Token) → (scan names (expected e) (t ∷ ts) ≡ []) × (named-in (expected e) (t ∷ ts) ≡ [])
 
 -- what the words of bytes are found to be, where so many of them count as read: the first fault; or none, and where the names of the parts begin
 abbrev pub Checked : Result ℕ Refusal → ℕ → List ℕ → List ℕ → Type 0

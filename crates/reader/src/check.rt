@@ -27,7 +27,7 @@ pub(crate) fn check(text: &[u8], tokens: &[u64], names: &mut [u64], read: usize)
         if at > read || read - at < word.len() {
             continue;
         }
-        match look(text, &names[0..parts], expect, at, word, read) {
+        match look(text, &names[0..parts], expect, at, word) {
             Look::Wrong(r) => return Err(r),
             Look::Done => return Ok(parts),
             Look::Next(next) => {

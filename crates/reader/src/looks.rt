@@ -85,13 +85,12 @@ fn is_name(word: &[u8]) -> bool
     }
 }
 
-/// A word where a line begins, behind so many parts; `read` bytes count as read.
-fn look_line(parts: usize, at: usize, word: &[u8], read: usize) -> Look
-    requires { ⌜ at ≤ read ⌝ }
-    ensures { λ r. ⌜ ((names : List (List ℕ)) → length names ≡ parts → Looked r read Expect.AtLine names (token at (now (word .entry)))) ⌝ }
+/// A word where a line begins, behind so many parts.
+fn look_line(parts: usize, at: usize, word: &[u8]) -> Look
+    ensures { λ r. ⌜ ((names : List (List ℕ)) → length names ≡ parts → Looked r Expect.AtLine names (token at (now (word .entry)))) ⌝ }
 {
     if same_word(word, b"part") {
-        if parts >= 100 && read - at >= 5 {
+        if parts >= 100 {
             return Look::Wrong(Refusal::Limit(at));
         }
         return Look::Next(Expect::AtNewName);
@@ -116,7 +115,7 @@ fn is_known(text: &[u8], names: &[u64], word: &[u8]) -> bool
 /// The name of a part: it is new.
 fn look_new_name(text: &[u8], names: &[u64], at: usize, word: &[u8]) -> Look
     requires { ⌜ ((k : ℕ) → k < length (now names) → getD (now names) k 0 ≤ length (now text)) ⌝ }
-    ensures { λ r. ⌜ ((read : ℕ) → Looked r read Expect.AtNewName (words-at (now (text .entry)) (now (names .entry))) (token at (now (word .entry)))) ⌝ }
+    ensures { λ r. ⌜ Looked r Expect.AtNewName (words-at (now (text .entry)) (now (names .entry))) (token at (now (word .entry))) ⌝ }
 {
     if is_name(word) && is_known(text, names, word) {
         return Look::Wrong(Refusal::Name(at));
@@ -127,7 +126,7 @@ fn look_new_name(text: &[u8], names: &[u64], at: usize, word: &[u8]) -> Look
 /// The name of a part that is asked about: it is there.
 fn look_used_name(text: &[u8], names: &[u64], at: usize, word: &[u8]) -> Look
     requires { ⌜ ((k : ℕ) → k < length (now names) → getD (now names) k 0 ≤ length (now text)) ⌝ }
-    ensures { λ r. ⌜ ((read : ℕ) → Looked r read Expect.AtUsedName (words-at (now (text .entry)) (now (names .entry))) (token at (now (word .entry)))) ⌝ }
+    ensures { λ r. ⌜ Looked r Expect.AtUsedName (words-at (now (text .entry)) (now (names .entry))) (token at (now (word .entry))) ⌝ }
 {
     if is_name(word) && !is_known(text, names, word) {
         return Look::Wrong(Refusal::Name(at));
@@ -137,7 +136,7 @@ fn look_used_name(text: &[u8], names: &[u64], at: usize, word: &[u8]) -> Look
 
 /// The word that a shape begins with.
 fn look_shape(at: usize, word: &[u8]) -> Look
-    ensures { λ r. ⌜ ((read : ℕ) (names : List (List ℕ)) → Looked r read Expect.AtShape names (token at (now (word .entry)))) ⌝ }
+    ensures { λ r. ⌜ ((names : List (List ℕ)) → Looked r Expect.AtShape names (token at (now (word .entry)))) ⌝ }
 {
     if same_word(word, b"box") {
         Look::Next(Expect::InBox(6))
@@ -149,7 +148,7 @@ fn look_shape(at: usize, word: &[u8]) -> Look
 /// One of the `left` numbers of a box.
 fn look_in_box(left: usize, at: usize, word: &[u8]) -> Look
     requires { ⌜ 0 < left ⌝ }
-    ensures { λ r. ⌜ ((read : ℕ) (names : List (List ℕ)) → Looked r read (Expect.InBox left) names (token at (now (word .entry)))) ⌝ }
+    ensures { λ r. ⌜ ((names : List (List ℕ)) → Looked r (Expect.InBox left) names (token at (now (word .entry)))) ⌝ }
 {
     if is_beyond(word) {
         return Look::Wrong(Refusal::Range(at));
@@ -159,7 +158,7 @@ fn look_in_box(left: usize, at: usize, word: &[u8]) -> Look
 
 /// One of the numbers of a place: `left` are before its w.
 fn look_in_place(left: usize, at: usize, word: &[u8]) -> Look
-    ensures { λ r. ⌜ ((read : ℕ) (names : List (List ℕ)) → Looked r read (Expect.InPlace left) names (token at (now (word .entry)))) ⌝ }
+    ensures { λ r. ⌜ ((names : List (List ℕ)) → Looked r (Expect.InPlace left) names (token at (now (word .entry)))) ⌝ }
 {
     if left == 0 {
         if is_no_scale(word) {
@@ -174,18 +173,17 @@ fn look_in_place(left: usize, at: usize, word: &[u8]) -> Look
 }
 
 /// A word where something is expected; `names` are the first bytes of the names of the parts so far.
-pub(crate) fn look(text: &[u8], names: &[u64], expect: Expect, at: usize, word: &[u8], read: usize) -> Look
-    requires inside { ⌜ ((k : ℕ) → k < length (now names) → getD (now names) k 0 ≤ length (now text)) ⌝ }
-    requires at { ⌜ at ≤ read ⌝ }
-    ensures { λ r. ⌜ Looked r read expect (words-at (now (text .entry)) (now (names .entry))) (token at (now (word .entry))) ⌝ }
+pub(crate) fn look(text: &[u8], names: &[u64], expect: Expect, at: usize, word: &[u8]) -> Look
+    requires { ⌜ ((k : ℕ) → k < length (now names) → getD (now names) k 0 ≤ length (now text)) ⌝ }
+    ensures { λ r. ⌜ Looked r expect (words-at (now (text .entry)) (now (names .entry))) (token at (now (word .entry))) ⌝ }
 {
     match expect {
-        Expect::AtLine => look_line(names.len(), at, word, read),
+        Expect::AtLine => look_line(names.len(), at, word),
         Expect::AtNewName => look_new_name(text, names, at, word),
         Expect::AtShape => look_shape(at, word),
         Expect::InBox(left) => {
             if left == 0 {
-                look_line(names.len(), at, word, read)
+                look_line(names.len(), at, word)
             } else {
                 look_in_box(left, at, word)
             }

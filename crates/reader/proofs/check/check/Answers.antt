@@ -16,7 +16,8 @@ use Rattle.reader.specs.declared.types.Look.{Look}
 use Rattle.reader.specs.declared.types.Look.the-variants.{Wrong, Next, Done}
 use Rattle.reader.specs.Names.{words-at}
 use Rattle.reader.specs.Scan.{Looked, with-name}
-use Rattle.reader.proofs.Checks.{Scanned, whole, starts-inside, turn-first, turn-skip, turn-next, turn-wrong, turn-done, turn-over, name-put, names-put, names-kept, taken-getD}
+use Rattle.grammar.proofs.First.{starts-inside}
+use Rattle.reader.proofs.Checks.{Scanned, whole, turn-first, turn-skip, turn-next, turn-wrong, turn-done, turn-over, name-put, names-put, names-kept, taken-getD}
 use Rattle.reader.proofs.check.check.Needs as need
 use Rattle.reader.proofs.check.check.Needs.{then-at-read·by·then-at-read, then-at-read·by·else-at-read·then-read-at, in-AtNewName, in-rest}
 
@@ -44,16 +45,13 @@ loop-k-again-then-at-read c =
     (turn-skip bs (c .args .read) (c .loop-k .names) (c .loop-k .parts) (c .loop-k .expect) (c .args .tokens .now) (c .loop-k .k) (c .loop-k-test .taken) (c .loop-k .inv .0) e, omega arith, c .loop-k .inv .2)
 
 pub look-requires : need.look-requires
-look-requires c κs = record {
-    inside = λ k h. let l = taken-getD (c .loop-k .names) (c .loop-k .parts) k (length (c .args .text .now)) (c .loop-k .inv .0 .inside) in l h;
-    at = c .if-at-read .left
-  }
+look-requires c κs = λ k h. taken-getD (c .loop-k .names) (c .loop-k .parts) k (length (c .args .text .now)) (c .loop-k .inv .0 .inside) h
 
 -- what `look` says, over the names and the word themselves
-said : (bs names word : List ℕ) (parts p read : ℕ) (e : Expect) (r : Look) → word ≡ tokAt (drop p bs) → Looked r read e (words-at bs (take (parts - 0) names)) (token p word) →
-    Looked r read e (words-at bs (take parts names)) (token p (tokAt (drop p bs)))
-said bs names word parts p read e r w l =
-    let P : ℕ → List ℕ → Type 0 = λ n v. Looked r read e (words-at bs (take n names)) (token p v) in
+said : (bs names word : List ℕ) (parts p : ℕ) (e : Expect) (r : Look) → word ≡ tokAt (drop p bs) → Looked r e (words-at bs (take (parts - 0) names)) (token p word) →
+    Looked r e (words-at bs (take parts names)) (token p (tokAt (drop p bs)))
+said bs names word parts p e r w l =
+    let P : ℕ → List ℕ → Type 0 = λ n v. Looked r e (words-at bs (take n names)) (token p v) in
     subst₂ P (sub-zero parts) w l
 
 read-whole : (at read n m : ℕ) → n ≡ m → at ≤ read → n ≤ read - at → leb (at + m) read ≡ true
@@ -64,7 +62,7 @@ returns-in-Wrong c =
     let bs = c .args .text .now in
     let p = getD (c .args .tokens .now) (c .loop-k .k) 0 in
     let g = read-whole p (c .args .read) _ _ (ap length (c .token-at-word .ensures)) (c .if-at-read .left) (c .if-read-at .left) in
-    let l = said bs (c .loop-k .names) (c .token-at-word .result .now) (c .loop-k .parts) p (c .args .read) (c .loop-k .expect) (Wrong (c .in-Wrong .r)) (c .token-at-word .ensures) (c .in-Wrong .ensures tt) in
+    let l = said bs (c .loop-k .names) (c .token-at-word .result .now) (c .loop-k .parts) p (c .loop-k .expect) (Wrong (c .in-Wrong .r)) (c .token-at-word .ensures) (c .in-Wrong .ensures tt) in
     turn-wrong bs (c .args .read) (c .loop-k .names) (c .loop-k .parts) (c .loop-k .expect) (c .args .tokens .now) (c .loop-k .k) (c .loop-k-test .taken) (c .loop-k .inv .0) (c .in-Wrong .r) g l
 
 pub returns-in-Done : need.returns-in-Done
@@ -72,7 +70,7 @@ returns-in-Done c =
     let bs = c .args .text .now in
     let p = getD (c .args .tokens .now) (c .loop-k .k) 0 in
     let g = read-whole p (c .args .read) _ _ (ap length (c .token-at-word .ensures)) (c .if-at-read .left) (c .if-read-at .left) in
-    let l = said bs (c .loop-k .names) (c .token-at-word .result .now) (c .loop-k .parts) p (c .args .read) (c .loop-k .expect) Done (c .token-at-word .ensures) (c .in-Done .ensures tt) in
+    let l = said bs (c .loop-k .names) (c .token-at-word .result .now) (c .loop-k .parts) p (c .loop-k .expect) Done (c .token-at-word .ensures) (c .in-Done .ensures tt) in
     let d = turn-done bs (c .args .read) (c .loop-k .names) (c .loop-k .parts) (c .loop-k .expect) (c .args .tokens .now) (c .loop-k .k) (c .loop-k-test .taken) (c .loop-k .inv .0) g l in
     (d .0, omega (arith, c .loop-k .inv .1, c .loop-k .inv .2), d .1, c .loop-k .inv .0 .inside)
 
@@ -93,7 +91,7 @@ loop-k-again c =
     let bs = c .args .text .now in
     let p = getD (c .args .tokens .now) (c .loop-k .k) 0 in
     let g = read-whole p (c .args .read) _ _ (ap length (c .token-at-word .ensures)) (c .if-at-read .left) (c .if-read-at .left) in
-    let l = said bs (c .loop-k .names) (c .token-at-word .result .now) (c .loop-k .parts) p (c .args .read) (c .loop-k .expect) (Next (c .in-Next .next)) (c .token-at-word .ensures) (c .in-Next .ensures tt) in
+    let l = said bs (c .loop-k .names) (c .token-at-word .result .now) (c .loop-k .parts) p (c .loop-k .expect) (Next (c .in-Next .next)) (c .token-at-word .ensures) (c .in-Next .ensures tt) in
     let room : c .loop-k .parts < length (c .loop-k .names) = omega (arith, c .loop-k .inv .1, c .loop-k .inv .2) in
     let P : List ℕ → ℕ → Expect → Type 0 = λ ns n e.
         Scanned bs (c .args .read) ns n e (drop (c .loop-k .k + 1) (c .args .tokens .now)) × (n ≤ c .loop-k .k + 1) × (length ns ≡ length (c .args .names .now)) in

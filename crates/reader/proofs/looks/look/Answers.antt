@@ -13,21 +13,21 @@ use Rattle.reader.specs.Scan.{Looked}
 use Rattle.reader.proofs.looks.look.Needs as need
 
 -- a box without numbers left is where a line begins
-over : (r : Look) (read : ℕ) (ns : List (List ℕ)) (t : Token) → Looked r read AtLine ns t → Looked r read (InBox 0) ns t
-over (Wrong f) read ns t h = h
-over (Next e) read ns t h = h
-over Done read ns t h = h
+over : (r : Look) (ns : List (List ℕ)) (t : Token) → Looked r AtLine ns t → Looked r (InBox 0) ns t
+over (Wrong f) ns t h = h
+over (Next e) ns t h = h
+over Done ns t h = h
 
 pub returns-in-AtLine : need.returns-in-AtLine
 returns-in-AtLine c =
     let ns = words-at (c .args .text .now) (c .args .names .now) in
     let l : length ns ≡ length (c .args .names .now) = simp length-map in
-    subst (λ (e : Expect). Looked (c .look-line .result) (c .args .read) e ns (token (c .args .at) (c .args .word .now))) (sym (c .in-AtLine .is)) (c .look-line .ensures ns l)
+    subst (λ (e : Expect). Looked (c .look-line .result) e ns (token (c .args .at) (c .args .word .now))) (sym (c .in-AtLine .is)) (c .look-line .ensures ns l)
 
 pub returns-then-left-eq0 : need.returns-then-left-eq0
 returns-then-left-eq0 c =
     let ns = words-at (c .args .text .now) (c .args .names .now) in
     let l : length ns ≡ length (c .args .names .now) = simp length-map in
     let e : c .args .expect ≡ InBox 0 = c .in-InBox .is ∙ ap (λ (k : ℕ). InBox k) (c .if-left-eq0 .taken) in
-    subst (λ (x : Expect). Looked (c .look-line-then-left-eq0 .result) (c .args .read) x ns (token (c .args .at) (c .args .word .now))) (sym e)
-        (over (c .look-line-then-left-eq0 .result) (c .args .read) ns _ (c .look-line-then-left-eq0 .ensures ns l))
+    subst (λ (x : Expect). Looked (c .look-line-then-left-eq0 .result) x ns (token (c .args .at) (c .args .word .now))) (sym e)
+        (over (c .look-line-then-left-eq0 .result) ns _ (c .look-line-then-left-eq0 .ensures ns l))
