@@ -1,6 +1,6 @@
 -- What digits write.
 use mathlib.Core.Path.{_≡_, refl, sym, _∙_, ap, subst}
-use mathlib.Core.List.{List, [], _∷_, _++_, map}
+use mathlib.Core.List.{List, [], _∷_, _++_, append-nil}
 use mathlib.Core.Bool.{Bool, true, false, cond, _&&_, _||_}
 use mathlib.Core.Logic.{_⊎_, inl, inr}
 use Prim.Native.Nat.{ℕ, zero, suc, _+_, _*_, _-_, _≤_, _<_}
@@ -51,6 +51,9 @@ pub read-decimal : (xs : List ℕ) (n : ℕ) → tokAt xs ≡ decimal n → read
 read-decimal xs n e =
     let k = tok-split xs in
     ap (readOn 0) (k .1 ∙ ap (λ (x : List ℕ). x ++ k .0) e) ∙ read-run (decimal n) (k .0) 0 (decimal-digits n) (k .2) ∙ decimal-value n
+
+pub read-digits : (n : ℕ) → readOn 0 (decimal n) ≡ n
+read-digits n = ap (readOn 0) (sym (append-nil (decimal n))) ∙ read-run (decimal n) [] 0 (decimal-digits n) tt ∙ decimal-value n
 
 -- one digit more
 pub read-more : (xs : List ℕ) (i v : ℕ) → i < length xs → digit (getD xs i 0) ≡ true → readOn (v * 10 + (getD xs i 0 - 48)) (drop (i + 1) xs) ≡ readOn v (drop i xs)
