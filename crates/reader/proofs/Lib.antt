@@ -7,3 +7,4 @@ pub mod Ranks
 pub mod Letters
 pub mod Scans
 pub mod Checks
+pub mod Naming
