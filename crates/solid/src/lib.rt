@@ -1,3 +1,4 @@
 //! Shapes and models: what they are, when a model is right, and a shape's value at a place.
 
+pub mod steps;
 pub mod types;
