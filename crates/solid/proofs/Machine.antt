@@ -1,5 +1,5 @@
 -- The words of a shape make that shape, and no other: what the stack machine does, before any memory.
-use mathlib.Core.Path.{_≡_, refl, sym, ap, ap₂, _∙_, subst}
+use mathlib.Core.Path.{_≡_, refl, sym, ap, _∙_, subst}
 use mathlib.Core.List.{List, [], _∷_, _++_, append-assoc}
 use Prim.Native.Nat.{ℕ, zero, suc, _+_, _≤_, _<_}
 use native.Mathlib.Omega.{arith}
@@ -11,7 +11,7 @@ use Rattle.solid.specs.declared.types.Step.{Step}
 use Rattle.solid.specs.declared.types.Step.the-variants.{Half, Both, Either, Without}
 use Rattle.solid.specs.Shapes.{Shape, half, both, either, without, planes, Has, Fits}
 use Rattle.solid.specs.Steps.{word, step, words, Fits-step, Coded}
-use Rattle.solid.specs.Stacks.{after, taken, Enough, Makes, plane-of-step, word-planes}
+use Rattle.solid.specs.Stacks.{after, taken, Enough, Makes}
 use Rattle.solid.proofs.Members.{has-here, has-left, has-right}
 use Rattle.solid.proofs.Digits.{step-word}
 
@@ -29,13 +29,13 @@ joined x f h s t a b u ws st m =
     subst (λ (l : List ℕ). Makes u l st) (sym e)
     (a u (words t ++ (word x ∷ ws)) st (b u (word x ∷ ws) (s ∷ st) (first x f u ws (t ∷ (s ∷ st)) (omega arith) m)))
 
-abbrev All-fit : List Plane → Type 0
+abbrev pub All-fit : List Plane → Type 0
 All-fit ps = (p : Plane) → Has ps p → Fits-plane p
 
-fit-left : (ps qs : List Plane) → All-fit (ps ++ qs) → All-fit ps
+pub fit-left : (ps qs : List Plane) → All-fit (ps ++ qs) → All-fit ps
 fit-left ps qs f p h = f p (has-left p ps qs h)
 
-fit-right : (ps qs : List Plane) → All-fit (ps ++ qs) → All-fit qs
+pub fit-right : (ps qs : List Plane) → All-fit (ps ++ qs) → All-fit qs
 fit-right ps qs f p h = f p (has-right p ps qs h)
 
 made : (s : Shape) → All-fit (planes s) → Made s
@@ -69,31 +69,6 @@ pub makes-fit : (s : Shape) (ws : List ℕ) (st : List Shape) (i : ℕ) → Make
 makes-fit s [] st i m h = absurd (omega arith)
 makes-fit s (w ∷ ws) st zero m h = m .0 .fits
 makes-fit s (w ∷ ws) st (suc i) m h = makes-fit s ws (after (step w) st) i (m .1) (omega arith)
-
--- the planes of a shape's words are the shape's
-word-planes-append : (us vs : List ℕ) → word-planes (us ++ vs) ≡ word-planes us ++ word-planes vs
-unfolding word-planes
-word-planes-append [] vs = refl
-word-planes-append (w ∷ us) vs = ap (λ (l : List Plane). plane-of-step (step w) ++ l) (word-planes-append us vs) ∙ sym (append-assoc (plane-of-step (step w)) (word-planes us) (word-planes vs))
-
-one-word : (x : Step) → Fits-step x → word-planes (word x ∷ []) ≡ plane-of-step x
-unfolding word-planes
-one-word x f = append-nil (plane-of-step (step (word x))) ∙ ap (λ (y : Step). plane-of-step y) (step-word x f)
-
-joint-planes : (x : Step) → Fits-step x → plane-of-step x ≡ [] → (us vs : List ℕ) (ps qs : List Plane) → word-planes us ≡ ps → word-planes vs ≡ qs → word-planes (us ++ (vs ++ (word x ∷ []))) ≡ ps ++ qs
-joint-planes x f n us vs ps qs a b =
-    word-planes-append us (vs ++ (word x ∷ []))
-    ∙ ap₂ _++_ a (word-planes-append vs (word x ∷ []) ∙ ap₂ _++_ b (one-word x f ∙ n) ∙ append-nil qs)
-
-fit-planes : (s : Shape) → All-fit (planes s) → word-planes (words s) ≡ planes s
-unfolding words planes
-fit-planes (half p) f = one-word (Half p) (f p (has-here p []))
-fit-planes (both s t) f = joint-planes Both tt refl (words s) (words t) (planes s) (planes t) (fit-planes s (fit-left (planes s) (planes t) f)) (fit-planes t (fit-right (planes s) (planes t) f))
-fit-planes (either s t) f = joint-planes Either tt refl (words s) (words t) (planes s) (planes t) (fit-planes s (fit-left (planes s) (planes t) f)) (fit-planes t (fit-right (planes s) (planes t) f))
-fit-planes (without s t) f = joint-planes Without tt refl (words s) (words t) (planes s) (planes t) (fit-planes s (fit-left (planes s) (planes t) f)) (fit-planes t (fit-right (planes s) (planes t) f))
-
-pub words-planes : (s : Shape) → Fits s → word-planes (words s) ≡ planes s
-words-planes s f = fit-planes s (f .each)
 
 -- of words that are known to be some shape's
 pub made-of : (ws : List ℕ) (s : Shape) → Fits s → ws ≡ words s → Makes s ws []
