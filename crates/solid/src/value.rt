@@ -12,6 +12,7 @@ ghost use Rattle.solid.specs.Steps.{words, Fits-step, Coded};
 ghost use Rattle.solid.specs.Stacks.{after, plane-of-step, Enough, Stacked, Values-at};
 ghost use Rattle.solid.specs.Examples.{on-some, told};
 use super::steps::step_of;
+use super::types::REACH;
 use super::types::Step;
 use super::types::Told;
 use plane::sides::side_of;
@@ -104,9 +105,6 @@ pub fn touches(steps: &[u64], q: Place) -> bool
     }
     false
 }
-
-/// The workshop ends this far from its middle.
-const REACH: u64 = 16_384;
 
 /// Whether the place is on a plane of the workshop.
 fn on_walls(q: Place) -> bool

@@ -13,7 +13,7 @@ unfolding holds by
 returns-in-Half c =
     record {
       stack = λ st k. at-half (Values-at (c .args .q)) (c .in-Half .p) (c .args .s) (c .in-Half .is) st (c .args .work .now) (c .args .top) _ (c .pre .room) (bit-byte (c .is-below .result) ∙ ap bit (c .is-below .ensures)) k;
-      grows = omega arith
+      grows = omega arith;
     }
 
 pub returns-in-Both : need.returns-in-Both
@@ -22,7 +22,7 @@ returns-in-Both c =
     record {
       stack = λ st k. at-joint (Values-at (c .args .q)) both (c .args .s) Both (c .in-Both .is) refl (λ s t l. refl) st (c .args .work .now) (c .args .top) _ (c .pre .enough) (omega arith)
           (λ s t a b. ap₂ bitAnd a b ∙ bit-and (holds s (c .args .q)) (holds t (c .args .q))) k;
-      grows = omega arith
+      grows = omega arith;
     }
 
 pub returns-in-Either : need.returns-in-Either
@@ -31,7 +31,7 @@ returns-in-Either c =
     record {
       stack = λ st k. at-joint (Values-at (c .args .q)) either (c .args .s) Either (c .in-Either .is) refl (λ s t l. refl) st (c .args .work .now) (c .args .top) _ (c .pre .enough) (omega arith)
           (λ s t a b. ap₂ bitOr a b ∙ bit-or (holds s (c .args .q)) (holds t (c .args .q))) k;
-      grows = omega arith
+      grows = omega arith;
     }
 
 pub returns-in-Without : need.returns-in-Without
@@ -40,5 +40,5 @@ returns-in-Without c =
     record {
       stack = λ st k. at-joint (Values-at (c .args .q)) without (c .args .s) Without (c .in-Without .is) refl (λ s t l. refl) st (c .args .work .now) (c .args .top) _ (c .pre .enough) (omega arith)
           (λ s t a b. ap₂ (λ x y. bitAnd x (bitXor y 1)) a b ∙ bit-without (holds s (c .args .q)) (holds t (c .args .q))) k;
-      grows = omega arith
+      grows = omega arith;
     }

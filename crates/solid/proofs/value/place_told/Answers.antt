@@ -11,5 +11,5 @@ unfolding told solid holds by planes
 returns c s f e =
     c .decided .ensures
     ∙ ap₂ (λ (t i : Bool). cond t On (cond i In Out))
-        (ap₂ _||_ (c .on-walls .ensures) (c .touches .ensures s f e) ∙ sym (on-some-append (c .args .q) (planes workshop) (planes s)))
-        (ap₂ _&&_ (c .in-walls .ensures) (c .holds-at .ensures s f e))
+    (ap₂ _||_ (c .on-walls .ensures) (c .touches .ensures s f e) ∙ sym (on-some-append (c .args .q) (planes workshop) (planes s)))
+    (ap₂ _&&_ (c .in-walls .ensures) (c .holds-at .ensures s f e))

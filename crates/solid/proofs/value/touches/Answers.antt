@@ -12,7 +12,7 @@ pub meets-requires : need.meets-requires
 meets-requires c κs =
     record {
       fits = subst (λ (x : Step). Fits-step x) (sym (c .step-of .ensures)) (makes-fit (c .pre .shape .shape) (c .args .steps .now) [] (c .loop-w .w-index) (coded-makes (c .args .steps .now) (c .pre .shape)) (c .loop-w-test .taken));
-      place = c .pre .place
+      place = c .pre .place;
     }
 
 pub returns-then-meets : need.returns-then-meets
