@@ -1,5 +1,5 @@
 -- Shapes and places changed together: the value of the shape at the place stays.
-use mathlib.Core.Path.{_≡_, ap, _∙_}
+use mathlib.Core.Path.{ap, _∙_}
 use lib.IntN.{ℤ, pos}
 use lib.Signed.{ltZ}
 use Rattle.plane.specs.declared.types.Plane.{Plane}

@@ -1,5 +1,5 @@
 -- A step in range is the step of its word: the digits of a plane's number are its slopes and its offset.
-use mathlib.Core.Path.{_≡_, refl, sym, ap, ap₂, _∙_, subst}
+use mathlib.Core.Path.{_≡_, refl, ap, _∙_}
 use Prim.Native.Nat.{ℕ, _+_, _-_, _*_, _/_, _%_, _<_}
 use native.Mathlib.Nat.{add-comm, mul-comm, mod-eq-of-lt}
 use native.Mathlib.Omega.{arith}

@@ -7,7 +7,7 @@ use lib.IntN.{ℤ, pos, _*ℤ_}
 use lib.Signed.{ltZ, _<ℤ_}
 use Rattle.std.proofs.shelf.Signed.{ints, by-ltZ}
 use Rattle.arith.proofs.Order.{mul-neg-pos, mul-nonneg}
-use Rattle.arith.proofs.Poly.{Expr, _:+_, _:*_, _:-_, negE}
+use Rattle.arith.proofs.Poly.{_:+_, _:*_, _:-_, negE}
 use Rattle.arith.proofs.Solve.{solve, _:=_}
 use Rattle.plane.specs.declared.types.Plane.{Plane}
 use Rattle.plane.specs.declared.types.Place.{Place}

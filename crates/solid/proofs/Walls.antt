@@ -1,11 +1,11 @@
 -- The workshop's planes: a place is on one if a coordinate is at the end of its reach, and below all if none is at it or past it.
 use mathlib.Core.Path.{_≡_, refl, sym, ap, ap₂, _∙_}
 use mathlib.Core.Bool.{Bool, true, false, _&&_, _||_}
-use Prim.Native.Nat.{ℕ, _*_, _≤_, _<_}
+use Prim.Native.Nat.{ℕ, _*_}
 use native.Mathlib.Omega.{arith}
 use lib.Dec.{eqb, ltb}
 use lib.IntN.{ℤ, pos, negsuc, _-ℤ_, _*ℤ_, natAbs}
-use lib.Signed.{ltZ, leZ}
+use lib.Signed.{ltZ}
 use Rattle.std.proofs.shelf.Signed.{ints}
 use Rattle.std.proofs.shelf.Ways.{tells}
 use Rattle.arith.proofs.Poly.{con, _:+_, _:*_, _:-_}
@@ -14,7 +14,7 @@ use Rattle.plane.specs.declared.types.Plane.{Plane}
 use Rattle.plane.specs.declared.types.Place.{Place}
 use Rattle.plane.specs.Limits.{reach}
 use Rattle.plane.specs.Planes.{sameZ, height, below, on}
-use Rattle.solid.specs.Shapes.{Shape, by, holds, planes, plane, box, workshop}
+use Rattle.solid.specs.Shapes.{by, holds, planes, plane, box, workshop}
 use Rattle.solid.specs.Examples.{on-some}
 
 -- with the heights over the two planes across an axis

@@ -1,13 +1,13 @@
 use mathlib.Core.Path.{_≡_, refl, sym, ap, _∙_, subst}
-use mathlib.Core.List.{List, []}
-use Prim.Native.Nat.{ℕ, _+_, _<_}
+use mathlib.Core.List.{[]}
+use Prim.Native.Nat.{ℕ}
 use native.Mathlib.Omega.{arith}
 use lib.Dec.{eqb}
 use lib.ListN.{length, getD}
 use Rattle.solid.specs.declared.types.Step.{Step}
-use Rattle.solid.specs.Shapes.{Shape, holds}
+use Rattle.solid.specs.Shapes.{holds}
 use Rattle.solid.specs.Steps.{step}
-use Rattle.solid.specs.Stacks.{after, Enough, Makes, Stacked, Values-at}
+use Rattle.solid.specs.Stacks.{after, Enough, Stacked, Values-at}
 use Rattle.solid.proofs.Machine.{coded-makes, made-of, makes-more, makes-all}
 use Rattle.solid.proofs.Memory.{stacked-length, bottom}
 use Rattle.solid.proofs.Joints.{bit-is}

@@ -1,6 +1,6 @@
 use mathlib.Core.Path.{_≡_, refl, sym, ap, _∙_}
 use mathlib.Core.Bool.{Bool, true, false, _||_}
-use mathlib.Core.Logic.{_⊎_, inl, inr}
+use mathlib.Core.Logic.{inl, inr}
 use Rattle.solid.specs.declared.types.Step.{Step}
 use Rattle.solid.specs.Stacks.{plane-of-step}
 use Rattle.solid.specs.Examples.{on-some}

@@ -1,4 +1,4 @@
-use mathlib.Core.Path.{_≡_, sym, ap₂, _∙_}
+use mathlib.Core.Path.{sym, ap₂, _∙_}
 use mathlib.Core.Bool.{Bool, cond, _&&_, _||_}
 use Rattle.solid.specs.declared.types.Told.the-variants.{In, Out, On}
 use Rattle.solid.specs.Shapes.{by, holds, planes, workshop, solid}
