@@ -1,4 +1,7 @@
--- The words of a shape make that shape, and no other: what the stack machine does, before any memory.
+-- What the stack machine does, before any memory: the words of a shape make that shape, and no other.
+--     words-make, made-of, coded-makes               the words of a shape make it
+--     makes-one, words-apart, coded-is               and no other
+--     makes-more, makes-all, makes-fit               one step further, at the end, and each step in range
 use mathlib.Core.Path.{_≡_, refl, sym, ap, _∙_, subst}
 use mathlib.Core.List.{List, [], _∷_, _++_, append-assoc}
 use Prim.Native.Nat.{ℕ, zero, suc, _+_, _≤_, _<_}

@@ -1,4 +1,7 @@
--- Words in memory that stand for the shapes on a stack: what each step writes keeps this, for any relation R of words and shapes.
+-- Words in memory that stand for the shapes on a stack, by any relation R of words and shapes.
+--     stacked-length, bottom                         how many there are, and the only one
+--     kept, pushed, joined                           what a write leaves, adds and joins
+--     at-half, at-joint                              the same for a step
 use mathlib.Core.Path.{_≡_, sym, ap, _∙_, subst}
 use mathlib.Core.List.{List, [], _∷_}
 use mathlib.Core.Logic.{_≢_}

@@ -1,4 +1,6 @@
 -- The planes of a shape, met one after the other in its words.
+--     words-planes, coded-planes                     the planes of the words are the shape's
+--     touched-here, touched-later, touched-none      a place on a plane of the words that are left
 use mathlib.Core.Path.{_≡_, refl, sym, ap, ap₂, _∙_}
 use mathlib.Core.Bool.{true, false, _||_}
 use mathlib.Core.List.{List, [], _∷_, _++_, append-assoc}

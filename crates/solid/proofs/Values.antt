@@ -1,4 +1,7 @@
--- A shape's value: it depends on what is said of the shape's planes alone, and changes with them.
+-- A shape's value, its planes and its words.
+--     by-same                                        the value depends on what is said of the shape's planes alone
+--     by-with, planes-with                           the value and the planes of a shape with changed planes
+--     words-length, words-few, planes-some           how many words and planes there are
 use mathlib.Core.Path.{_≡_, refl, sym, ap₂, _∙_}
 use mathlib.Core.Bool.{Bool, _&&_, _||_, not}
 use mathlib.Core.List.{List, [], _∷_, _++_, map}
