@@ -23,12 +23,11 @@ pub enum Went {
     Word,
 }
 
-/// What the reader says: it is a text, it goes wrong at this byte, or the stack is too short.
-#[derive(Clone, Copy, PartialEq, Debug)]
+/// What the grammar says of bytes: they are a text, or none goes on so at this byte.
+#[derive(Clone, Copy)]
 pub enum Verdict {
     Whole,
     Bad(usize),
-    Room,
 }
 
 /// What a text that is taken has: how many steps its parts have in all, and how many questions it asks.
