@@ -8,3 +8,4 @@ pub mod Letters
 pub mod Scans
 pub mod Checks
 pub mod Naming
+pub mod Examining

@@ -1,6 +1,7 @@
 //! Bytes to steps: reads a text, or says which fault comes first.
 
 mod check;
+mod examine;
 mod looks;
 mod machine;
 mod spelling;

@@ -68,3 +68,17 @@ pub enum Look {
     Next(Expect),
     Done,
 }
+
+/// How far the bytes that are read begin a text, and whether they are one.
+#[derive(Clone, Copy)]
+pub struct Reach {
+    pub at: usize,
+    pub whole: bool,
+}
+
+/// What a text that is taken has: how many words and numbers, and how many parts.
+#[derive(Clone, Copy)]
+pub struct Found {
+    pub words: usize,
+    pub parts: usize,
+}
