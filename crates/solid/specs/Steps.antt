@@ -7,7 +7,7 @@ use lib.Dec.{eqb}
 use lib.IntN.{ℤ, pos, _+ℤ_, _-ℤ_, natAbs}
 use Rattle.plane.specs.declared.types.Plane.{Plane}
 use Rattle.plane.specs.declared.types.Place.{Place}
-use Rattle.plane.specs.Limits.{slope-limit, offset-limit}
+use Rattle.plane.specs.Limits.{slope-limit, offset-limit, Fits-plane}
 use Rattle.solid.specs.declared.types.Step.{Step}
 use Rattle.solid.specs.declared.types.Step.the-variants.{Half, Both, Either, Without}
 use Rattle.solid.specs.Shapes.{Shape, half, both, either, without, Fits}
@@ -52,6 +52,13 @@ words (half p) = word (Half p) ∷ []
 words (both s t) = words s ++ (words t ++ (word Both ∷ []))
 words (either s t) = words s ++ (words t ++ (word Either ∷ []))
 words (without s t) = words s ++ (words t ++ (word Without ∷ []))
+
+-- a step in range
+abbrev pub Fits-step : Step → Type 0
+Fits-step (Half p) = Fits-plane p
+Fits-step Both = Unit {0}
+Fits-step Either = Unit {0}
+Fits-step Without = Unit {0}
 
 -- the steps of a shape in range
 pub record Coded (ws : List ℕ) : Type 0 where
