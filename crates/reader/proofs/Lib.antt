@@ -5,3 +5,5 @@ pub mod Turn
 pub mod Values
 pub mod Spans
 pub mod Ranks
+pub mod Numbers
+pub mod Pairs

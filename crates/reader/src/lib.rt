@@ -1,5 +1,6 @@
 //! Bytes to steps: reads a text, or says which fault comes first.
 
+mod build;
 mod machine;
 mod spelling;
 mod stack;
