@@ -7,3 +7,4 @@ pub mod Spans
 pub mod Ranks
 pub mod Numbers
 pub mod Pairs
+pub mod Laying

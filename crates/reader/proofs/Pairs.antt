@@ -13,7 +13,7 @@ use Rattle.std.proofs.shelf.Lists.{drop-more, drop-drop, length-set, take-more-
 use Rattle.std.proofs.shelf.Parts.{take-putMid}
 use Rattle.grammar.specs.Grammar.{same}
 use Rattle.reader.specs.Names.{rank}
-use Rattle.reader.specs.Layout.{pair-of}
+use Rattle.reader.specs.Lines.{pair-of}
 
 -- two words read, and written
 pub pair-read : (ps : List ℕ) (i : ℕ) → i + 1 < length ps → getD ps i 0 ∷ getD ps (i + 1) 0 ∷ [] ≡ take 2 (drop i ps)

@@ -1,16 +1,16 @@
 -- How a text that is taken lies in words: the steps of its parts, one part behind the other, and its questions, six words each.
 use mathlib.Core.Path.{_≡_}
 use mathlib.Core.List.{List, [], _∷_, _++_}
-use mathlib.Core.Bool.{true, cond, _&&_}
+use mathlib.Core.Bool.{true, cond}
 use Prim.Native.Nat.{ℕ, _+_, _*_, _<_, _≤_}
-use lib.IntN.{ℤ, natAbs}
-use lib.ListN.{length, take, drop, getD}
+use lib.IntN.{natAbs}
+use lib.ListN.{length, take, getD}
 use mir.Syntax.{w64}
 use mir.Val.{ofZ}
 use Rattle.solid.specs.Steps.{words}
-use Rattle.grammar.specs.Grammar.{Name, Expr, box, Line, part, place, same-as, meet, model, same, print}
-use Rattle.grammar.specs.Tokens.{codeL, codeOf}
-use Rattle.grammar.specs.Meaning.{Part, says, questions, short, scales, fine-shape, fine}
+use Rattle.grammar.specs.Grammar.{Name, Expr, Line, part, place, same-as, meet, model, same, print}
+use Rattle.grammar.specs.Tokens.{codeOf}
+use Rattle.grammar.specs.Meaning.{Part, says, questions, fine}
 use Rattle.reader.specs.declared.types.Counts.{Counts}
 use Rattle.reader.specs.Names.{words-at}
 
@@ -67,32 +67,3 @@ pub record Laid (ls : List Line) (n : Counts) (steps asked : List ℕ) : Type 0 
   pub asked-are : take (6 * n .asked) asked ≡ asked-words [] ls
   pub asked-fits : 6 * n .asked ≤ length asked
   pub count : n .asked ≡ length (questions [] ls)
-
--- words begin with a part's line that is taken
-pub record Part-at (text tokens : List ℕ) : Type 0 where
-  pub name : Name
-  pub x0 : ℤ
-  pub x1 : ℤ
-  pub y0 : ℤ
-  pub y1 : ℤ
-  pub z0 : ℤ
-  pub z1 : ℤ
-  pub behind : List (List ℕ)
-  pub read : words-at text tokens ≡ codeL (part name (box x0 x1 y0 y1 z0 z1)) behind
-  pub sound : fine-shape (box x0 x1 y0 y1 z0 z1) ≡ true
-
--- words begin with a question about a place that is taken
-pub record Place-at (text tokens : List ℕ) : Type 0 where
-  pub name : Name
-  pub x : ℤ
-  pub y : ℤ
-  pub z : ℤ
-  pub w : ℤ
-  pub behind : List (List ℕ)
-  pub read : words-at text tokens ≡ codeL (place name x y z w) behind
-  pub sound : (short x && (short y && (short z && scales w))) ≡ true
-
--- the two words that belong to a name, where each of some names has two
-abbrev pub pair-of : List (List ℕ) → List ℕ → List ℕ → List ℕ
-pair-of [] pairs w = 0 ∷ 0 ∷ []
-pair-of (n ∷ ns) pairs w = cond (same w n) (take 2 pairs) (pair-of ns (drop 2 pairs) w)

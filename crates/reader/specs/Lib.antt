@@ -2,3 +2,4 @@ pub mod Stack
 pub mod Reading
 pub mod Names
 pub mod Layout
+pub mod Lines

@@ -1,7 +1,7 @@
 //! A text that is taken, laid into words: the steps of its parts, and its questions.
 
 ghost use mathlib.Core.Path.{_≡_};
-ghost use mathlib.Core.List.{[], _∷_, _++_};
+ghost use mathlib.Core.List.{List, [], _∷_, _++_};
 ghost use Prim.Native.Nat.{ℕ, _+_, _*_, _<_, _≤_};
 ghost use lib.Chars.{codes};
 ghost use lib.IntN.{ℤ, natAbs};
@@ -12,14 +12,16 @@ ghost use Rattle.arith.specs.Bounds.{Short};
 ghost use Rattle.plane.specs.Limits.{Fits-plane};
 ghost use Rattle.solid.specs.Shapes.{plane, box};
 ghost use Rattle.solid.specs.Steps.{word, words};
-ghost use Rattle.grammar.specs.Grammar.{signed, same};
+ghost use Rattle.grammar.specs.Grammar.{signed, same, Line, print};
 ghost use Rattle.grammar.specs.Tokens.{tokAt};
 ghost use Rattle.grammar.specs.Values.{number-limit};
-ghost use Rattle.reader.specs.Layout.{Part-at, Place-at, pair-of};
+ghost use Rattle.reader.specs.Layout.{Taken, Laid};
+ghost use Rattle.reader.specs.Lines.{Part-at, Place-at, pair-of};
 ghost use Rattle.reader.specs.Names.{words-at};
 use super::tokens::find_name;
 use super::tokens::number_at;
 use super::tokens::token_at;
+use super::types::Counts;
 use plane::types::Plane;
 use solid::steps::word_of;
 use solid::types::Step;
@@ -162,4 +164,39 @@ fn place_line(
         w.cast_unsigned(),
     ];
     asked[6 * count..6 * count + 6].copy_from_slice(&question);
+}
+
+/// Lays a text that is taken into words: the steps of its parts, and its questions.
+pub(crate) fn build(
+    text: &[u8],
+    tokens: &[u64],
+    names: &[u64],
+    spots: &mut [u64],
+    steps: &mut [u64],
+    asked: &mut [u64],
+) -> Counts
+    requires taken { ⌜ Taken (now text) (now tokens) (now names) ⌝ }
+    requires spots_room { ⌜ length (now tokens) ≤ length (now spots) ⌝ }
+    requires steps_room { ⌜ 2 * length (now tokens) ≤ length (now steps) ⌝ }
+    requires asked_room { ⌜ length (now tokens) ≤ length (now asked) ⌝ }
+    ensures { λ r. ⌜ ((ls : List Line) → now (text .entry) ≡ print ls → Laid ls r (now (steps .exit)) (now (asked .exit))) ⌝ }
+{
+    let mut at = 0;
+    let mut parts = 0;
+    let mut used = 0;
+    let mut count = 0;
+    while at < tokens.len() {
+        let line = &tokens[at..];
+        if is_part(text, line[0]) {
+            part_line(text, line, parts, used, spots, steps);
+            at += 9;
+            parts += 1;
+            used += 11;
+        } else {
+            place_line(text, line, &names[0..parts], spots, count, asked);
+            at += 6;
+            count += 1;
+        }
+    }
+    Counts { used, asked: count }
 }

@@ -11,7 +11,7 @@ use Rattle.arith.proofs.Sized.{Is, is-short}
 use Rattle.grammar.specs.Grammar.{signed}
 use Rattle.grammar.specs.Tokens.{tokAt}
 use Rattle.grammar.specs.Values.{number-limit}
-use Rattle.reader.specs.Layout.{Part-at}
+use Rattle.reader.specs.Lines.{Part-at}
 use Rattle.reader.proofs.Numbers.{Numbers, box-numbers, number-read}
 use Rattle.reader.proofs.build.box_of.Needs as need
 
