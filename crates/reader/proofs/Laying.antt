@@ -132,9 +132,23 @@ data Next (left : List Line) (w : List ℕ) : Type 0 where
   a-part : w ≡ codes "part" → Part-next left → Next left w
   a-place : w ≡ codes "place" → Place-next left → Next left w
 
--- what holds of a part that is taken
-part-sound : (ns : List (List ℕ)) (n : Name) (e : Expr) (ls : List Line) → fine ns (part n e ∷ ls) ≡ true → (fine-shape e ≡ true) × (fine (ns ++ n .0 ∷ []) ls ≡ true)
+-- what holds of a line that is taken
+pub part-sound : (ns : List (List ℕ)) (n : Name) (e : Expr) (ls : List Line) → fine ns (part n e ∷ ls) ≡ true → (fine-shape e ≡ true) × (fine (ns ++ n .0 ∷ []) ls ≡ true)
 part-sound ns n e ls h = and-parts (fine-shape e) _ (and-parts (not (oneOf ns (n .0))) _ (and-parts (ltb (length ns) most-parts) _ h .1) .1)
+
+pub record Sound (ns : List (List ℕ)) (n : Name) (x y z w : ℤ) (ls : List Line) : Type 0 where
+  pub known : oneOf ns (n .0) ≡ true
+  pub numbers : (short x && (short y && (short z && scales w))) ≡ true
+  pub later : fine ns ls ≡ true
+
+pub place-sound : (ns : List (List ℕ)) (n : Name) (x y z w : ℤ) (ls : List Line) → fine ns (place n x y z w ∷ ls) ≡ true → Sound ns n x y z w ls
+place-sound ns n x y z w ls h =
+    let k = and-parts (oneOf ns (n .0)) _ h in
+    let a = and-parts (short x) _ (k .1) in
+    let b = and-parts (short y) _ (a .1) in
+    let c = and-parts (short z) _ (b .1) in
+    let d = and-parts (scales w) (fine ns ls) (c .1) in
+    record { known = k .0; numbers = and-from (short x) _ (a .0) (and-from (short y) _ (b .0) (and-from (short z) (scales w) (c .0) (d .0))); later = d .1 }
 
 next : (ns : List (List ℕ)) (ls : List Line) (w : List ℕ) (ws : List (List ℕ)) → fine ns ls ≡ true → w ∷ ws ≡ codeOf ls → Next ls w
 next ns [] w ws h e = let z : _≡_ {A = ℕ} 0 1 = cc in absurd (omega arith)
@@ -166,7 +180,7 @@ read-on text tokens at n ws e =
     ∙ ap (drop n) e
 
 -- one more part
-steps-push : (ps : List Part) (p : Part) → steps-of (ps ++ p ∷ []) ≡ steps-of ps ++ words (p .shape)
+pub steps-push : (ps : List Part) (p : Part) → steps-of (ps ++ p ∷ []) ≡ steps-of ps ++ words (p .shape)
 steps-push [] p = append-nil (words (p .shape))
 steps-push (q ∷ ps) p = ap (λ (l : List ℕ). words (q .shape) ++ l) (steps-push ps p) ∙ sym (append-assoc (words (q .shape)) (steps-of ps) (words (p .shape)))
 
@@ -249,17 +263,11 @@ module _ {text tokens names spots steps asked : List ℕ} {at parts used count :
     place-long : 6 ≤ length (tail at tokens)
     place-long = omega (arith, simp length-map at (ap length (s .read)))
 
-    place-sound : ((short x && (short y && (short z && scales w))) ≡ true) × (fine (names-of (s .before)) more ≡ true)
-    place-sound =
-        let ns = names-of (s .before) in
-        let a = and-parts (short x) _ (and-parts (oneOf ns (n .0)) _ (s .sound) .1) in
-        let b = and-parts (short y) _ (a .1) in
-        let c = and-parts (short z) _ (b .1) in
-        let d = and-parts (scales w) (fine ns more) (c .1) in
-        (and-from (short x) _ (a .0) (and-from (short y) _ (b .0) (and-from (short z) (scales w) (c .0) (d .0))), d .1)
+    its-sound : Sound (names-of (s .before)) n x y z w more
+    its-sound = place-sound (names-of (s .before)) n x y z w more (s .sound)
 
     place-at : Place-at text (tail at tokens)
-    place-at = record { name = n; x = x; y = y; z = z; w = w; behind = codeOf more; read = s .read; sound = place-sound .0 }
+    place-at = record { name = n; x = x; y = y; z = z; w = w; behind = codeOf more; read = s .read; sound = its-sound .numbers }
 
     its-names : words-at text (take (parts - 0) names) ≡ names-of (s .before)
     its-names =
@@ -287,7 +295,7 @@ module _ {text tokens names spots steps asked : List ℕ} {at parts used count :
           before = ps;
           is = s .is;
           read = read-on text tokens at 6 _ (s .read);
-          sound = place-sound .1;
+          sound = its-sound .later;
           named = s .named;
           spots-are = s .spots-are;
           used-is = s .used-is;

@@ -8,3 +8,4 @@ pub mod Ranks
 pub mod Numbers
 pub mod Pairs
 pub mod Laying
+pub mod Asked
