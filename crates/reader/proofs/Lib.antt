@@ -9,3 +9,7 @@ pub mod Scans
 pub mod Checks
 pub mod Naming
 pub mod Examining
+pub mod Numbers
+pub mod Pairs
+pub mod Laying
+pub mod Asked

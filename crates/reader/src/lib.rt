@@ -3,6 +3,7 @@
 mod check;
 mod examine;
 mod looks;
+mod build;
 mod machine;
 mod spelling;
 mod stack;

@@ -1,0 +1,202 @@
+//! A text that is taken, laid into words: the steps of its parts, and its questions.
+
+ghost use mathlib.Core.Path.{_≡_};
+ghost use mathlib.Core.List.{List, [], _∷_, _++_};
+ghost use Prim.Native.Nat.{ℕ, _+_, _*_, _<_, _≤_};
+ghost use lib.Chars.{codes};
+ghost use lib.IntN.{ℤ, natAbs};
+ghost use lib.ListN.{length, take, drop, getD};
+ghost use mir.Syntax.{w64};
+ghost use mir.Val.{ofZ};
+ghost use Rattle.arith.specs.Bounds.{Short};
+ghost use Rattle.plane.specs.Limits.{Fits-plane};
+ghost use Rattle.solid.specs.Shapes.{plane, box};
+ghost use Rattle.solid.specs.Steps.{word, words};
+ghost use Rattle.grammar.specs.Grammar.{signed, same, Line, print};
+ghost use Rattle.grammar.specs.Tokens.{tokAt};
+ghost use Rattle.grammar.specs.Values.{number-limit};
+ghost use Rattle.reader.specs.Layout.{Taken, Laid};
+ghost use Rattle.reader.specs.Lines.{Part-at, Place-at, pair-of};
+ghost use Rattle.reader.specs.Names.{words-at};
+use super::tokens::find_name;
+use super::tokens::number_at;
+use super::tokens::token_at;
+use super::types::Counts;
+use plane::types::Plane;
+use solid::steps::word_of;
+use solid::types::Step;
+
+/// The word of a half-space.
+fn half_word(a: i64, b: i64, c: i64, d: i64) -> u64
+    requires { ⌜ Fits-plane (plane a b c d) ⌝ }
+    ensures { λ r. ⌜ r ≡ word (Step.Half (plane a b c d)) ⌝ }
+{
+    word_of(Step::Half(Plane { a, b, c, d }))
+}
+
+/// The steps of a box.
+fn box_words(x0: i64, x1: i64, y0: i64, y1: i64, z0: i64, z1: i64) -> [u64; 11]
+    requires low { ⌜ Short x0 number-limit ⌝ ∗ ⌜ Short y0 number-limit ⌝ ∗ ⌜ Short z0 number-limit ⌝ }
+    requires high { ⌜ Short x1 number-limit ⌝ ∗ ⌜ Short y1 number-limit ⌝ ∗ ⌜ Short z1 number-limit ⌝ }
+    ensures { λ r. ⌜ r ≡ words (box x0 x1 y0 y1 z0 z1) ⌝ }
+{
+    let both = word_of(Step::Both);
+    [
+        half_word(1, 0, 0, x1),
+        half_word(-1, 0, 0, -x0),
+        both,
+        half_word(0, 1, 0, y1),
+        half_word(0, -1, 0, -y0),
+        both,
+        both,
+        half_word(0, 0, 1, z1),
+        half_word(0, 0, -1, -z0),
+        both,
+        both,
+    ]
+}
+
+/// The number that begins at a byte.
+fn number(text: &[u8], from: u64) -> i64
+    requires { ⌜ from < length (now text) ⌝ }
+    ensures { λ r. ⌜ ((z : ℤ) → tokAt (drop from (now (text .entry))) ≡ signed z → Short z number-limit → r ≡ z) ⌝ }
+{
+    match number_at(text, from as usize) {
+        Some(v) => v,
+        None => 0,
+    }
+}
+
+/// The steps of the box of a part's line.
+fn box_of(text: &[u8], line: &[u64]) -> [u64; 11]
+    requires long { ⌜ 9 ≤ length (now line) ⌝ }
+    requires inside { ⌜ ((k : ℕ) → k < length (now line) → getD (now line) k 0 < length (now text)) ⌝ }
+    requires taken { ⌜ Part-at (now text) (now line) ⌝ }
+    ensures { λ r. ⌜ ((p : Part-at (now (text .entry)) (now (line .entry))) → r ≡ words (box (p .x0) (p .x1) (p .y0) (p .y1) (p .z0) (p .z1))) ⌝ }
+{
+    let x0 = number(text, line[3]);
+    let x1 = number(text, line[4]);
+    let y0 = number(text, line[5]);
+    let y1 = number(text, line[6]);
+    let z0 = number(text, line[7]);
+    let z1 = number(text, line[8]);
+    box_words(x0, x1, y0, y1, z0, z1)
+}
+
+/// Whether the word that begins at a byte begins a part's line.
+fn is_part(text: &[u8], from: u64) -> bool
+    requires { ⌜ from < length (now text) ⌝ }
+    ensures { λ r. ⌜ r ≡ same (codes "part") (tokAt (drop from (now (text .entry)))) ⌝ }
+{
+    token_at(text, from as usize) == b"part"
+}
+
+/// The i-th two of some words.
+fn pair_at(pairs: &[u64], i: usize) -> [u64; 2]
+    requires { ⌜ 2 * i + 1 < length (now pairs) ⌝ }
+    ensures { λ r. ⌜ r ≡ take 2 (drop (2 * i) (now (pairs .entry))) ⌝ }
+{
+    [pairs[2 * i], pairs[2 * i + 1]]
+}
+
+/// The two words that belong to a name.
+fn spot_of(text: &[u8], names: &[u64], spots: &[u64], name: &[u8]) -> [u64; 2]
+    requires names { ⌜ ((k : ℕ) → k < length (now names) → getD (now names) k 0 ≤ length (now text)) ⌝ }
+    requires spots { ⌜ 2 * length (now names) ≤ length (now spots) ⌝ }
+    ensures { λ r. ⌜ r ≡ pair-of (words-at (now (text .entry)) (now (names .entry))) (now (spots .entry)) (now (name .entry)) ⌝ }
+{
+    match find_name(text, names, name) {
+        Some(i) => pair_at(spots, i),
+        None => [0, 0],
+    }
+}
+
+/// A part's line: writes its steps behind the first `used`, and where they are behind the spots of the parts before it.
+fn part_line(
+    text: &[u8],
+    line: &[u64],
+    parts: usize,
+    used: usize,
+    spots: &mut [u64],
+    steps: &mut [u64],
+)
+    requires long { ⌜ 9 ≤ length (now line) ⌝ }
+    requires inside { ⌜ ((k : ℕ) → k < length (now line) → getD (now line) k 0 < length (now text)) ⌝ }
+    requires taken { ⌜ Part-at (now text) (now line) ⌝ }
+    requires spots_room { ⌜ 2 * parts + 2 ≤ length (now spots) ⌝ }
+    requires steps_room { ⌜ used + 11 ≤ length (now steps) ⌝ }
+    ensures spots { λ _. ⌜ take (2 * parts + 2) (now (spots .exit)) ≡ take (2 * parts) (now (spots .entry)) ++ used ∷ 11 ∷ [] ⌝ }
+    ensures steps { λ _. ⌜ ((p : Part-at (now (text .entry)) (now (line .entry))) → take (used + 11) (now (steps .exit)) ≡ take used (now (steps .entry)) ++ words (box (p .x0) (p .x1) (p .y0) (p .y1) (p .z0) (p .z1))) ⌝ }
+{
+    let words = box_of(text, line);
+    steps[used..used + 11].copy_from_slice(&words);
+    spots[2 * parts] = used as u64;
+    spots[2 * parts + 1] = 11;
+}
+
+/// A place's line: writes its question behind the first `count`.
+fn place_line(
+    text: &[u8],
+    line: &[u64],
+    names: &[u64],
+    spots: &[u64],
+    count: usize,
+    asked: &mut [u64],
+)
+    requires long { ⌜ 6 ≤ length (now line) ⌝ }
+    requires inside { ⌜ ((k : ℕ) → k < length (now line) → getD (now line) k 0 < length (now text)) ⌝ }
+    requires names { ⌜ ((k : ℕ) → k < length (now names) → getD (now names) k 0 ≤ length (now text)) ⌝ }
+    requires spots { ⌜ 2 * length (now names) ≤ length (now spots) ⌝ }
+    requires asked_room { ⌜ 6 * count + 6 ≤ length (now asked) ⌝ }
+    ensures { λ _. ⌜ ((p : Place-at (now (text .entry)) (now (line .entry))) → take (6 * count + 6) (now (asked .exit)) ≡ take (6 * count) (now (asked .entry)) ++ (pair-of (words-at (now (text .entry)) (now (names .entry))) (now (spots .entry)) (p .name .0) ++ (ofZ w64 (p .x) ∷ ofZ w64 (p .y) ∷ ofZ w64 (p .z) ∷ natAbs (p .w) ∷ []))) ⌝ }
+{
+    let spot = spot_of(text, names, spots, token_at(text, line[1] as usize));
+    let x = number(text, line[2]);
+    let y = number(text, line[3]);
+    let z = number(text, line[4]);
+    let w = number(text, line[5]);
+    let question = [
+        spot[0],
+        spot[1],
+        x.cast_unsigned(),
+        y.cast_unsigned(),
+        z.cast_unsigned(),
+        w.cast_unsigned(),
+    ];
+    asked[6 * count..6 * count + 6].copy_from_slice(&question);
+}
+
+/// Lays a text that is taken into words: the steps of its parts, and its questions.
+pub(crate) fn build(
+    text: &[u8],
+    tokens: &[u64],
+    names: &[u64],
+    spots: &mut [u64],
+    steps: &mut [u64],
+    asked: &mut [u64],
+) -> Counts
+    requires taken { ⌜ Taken (now text) (now tokens) (now names) ⌝ }
+    requires spots_room { ⌜ length (now tokens) ≤ length (now spots) ⌝ }
+    requires steps_room { ⌜ 2 * length (now tokens) ≤ length (now steps) ⌝ }
+    requires asked_room { ⌜ length (now tokens) ≤ length (now asked) ⌝ }
+    ensures { λ r. ⌜ ((ls : List Line) → now (text .entry) ≡ print ls → Laid ls r (now (steps .exit)) (now (asked .exit))) ⌝ }
+{
+    let mut at = 0;
+    let mut parts = 0;
+    let mut used = 0;
+    let mut count = 0;
+    while at < tokens.len() {
+        let line = &tokens[at..];
+        if is_part(text, line[0]) {
+            part_line(text, line, parts, used, spots, steps);
+            at += 9;
+            parts += 1;
+            used += 11;
+        } else {
+            place_line(text, line, &names[0..parts], spots, count, asked);
+            at += 6;
+            count += 1;
+        }
+    }
+    Counts { used, asked: count }
+}
