@@ -6,7 +6,8 @@ use Prim.Native.Nat.{ℕ, _-_, _≤_, _<_}
 use lib.ListN.{length, take, drop, getD}
 use Rattle.std.specs.declared.result.Result.{Result}
 use Rattle.std.specs.declared.result.Result.the-variants.{Ok, Err}
-use Rattle.grammar.specs.Grammar.{Text, Refused}
+use Rattle.grammar.specs.Grammar.{Text, Refused, Line, print}
+use Rattle.grammar.specs.Meaning.{fine}
 use Rattle.std.specs.declared.option.Option.{Option}
 use Rattle.std.specs.declared.option.Option.the-variants.{Some, None}
 use Rattle.grammar.specs.Faults.{Fault, word-faults, looked, most-bytes, Reaches, First-fault}
@@ -17,7 +18,8 @@ use Rattle.reader.specs.declared.types.Verdict.the-variants.{Whole, Bad}
 use Rattle.reader.specs.declared.types.Reach.{Reach}
 use Rattle.reader.specs.declared.types.Found.{Found}
 use Rattle.reader.specs.declared.types.Refusal.{Refusal}
-use Rattle.reader.specs.Layout.{Taken}
+use Rattle.reader.specs.declared.types.Counts.{Counts}
+use Rattle.reader.specs.Layout.{Taken, Laid}
 use Rattle.reader.specs.Scan.{told, named-in}
 
 abbrev pub Says : Verdict → List ℕ → Type 0
@@ -55,3 +57,8 @@ Last None bs = Text bs × (length bs ≤ most-bytes)
 abbrev pub Examined : Result Found Refusal → List ℕ → List ℕ → List ℕ → Type 0
 Examined (Ok n) bs tokens names = Taken bs (take (n .words) tokens) (take (n .parts) names) × (n .words ≤ length bs) × (n .parts ≤ length names)
 Examined (Err r) bs tokens names = First-fault bs (told r)
+
+-- a text that is taken lies in words; or its first fault is told
+abbrev pub Read : Result Counts Refusal → List ℕ → List ℕ → List ℕ → Type 0
+Read (Ok n) bs steps asked = (ls : List Line) × (bs ≡ print ls) × (fine [] ls ≡ true) × Laid ls n steps asked
+Read (Err r) bs steps asked = First-fault bs (told r)
