@@ -16,7 +16,7 @@ use Rattle.solid.proofs.Machine.{words-apart}
 pub words-set : IsSet (List ℕ)
 words-set = hedberg (List-discrete ℕ-discrete)
 
-short-prop : (z : ℤ) (n : ℕ) → IsProp (Short z n)
+pub short-prop : (z : ℤ) (n : ℕ) → IsProp (Short z n)
 short-prop z n a b = λ i. record { size = le-prop (a .size) (b .size) i }
 
 plane-prop : (p : Plane) → IsProp (Fits-plane p)
