@@ -1,1 +1,4 @@
+pub mod Formulas
 pub mod Heights
+pub mod Invariance
+pub mod Ranges

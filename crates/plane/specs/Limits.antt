@@ -26,13 +26,21 @@ coordinate-limit = 2 ^ 56 - 1
 abbrev pub scale-limit : ℕ
 scale-limit = 2 ^ 42 - 1
 
--- a plane in range: its slopes are not all 0
+-- the slopes are not all 0
+abbrev pub Sloped : Plane → Type 0
+Sloped p = (p .a ≡ pos 0) × (p .b ≡ pos 0) × (p .c ≡ pos 0) → ⊥
+
+-- the slopes are in range
+abbrev pub Gentle : Plane → Type 0
+Gentle p = Short (p .a) slope-limit × Short (p .b) slope-limit × Short (p .c) slope-limit
+
+-- a plane in range
 pub record Fits-plane (p : Plane) : Type 0 where
   pub a : Short (p .a) slope-limit
   pub b : Short (p .b) slope-limit
   pub c : Short (p .c) slope-limit
   pub d : Short (p .d) offset-limit
-  pub sloped : (p .a ≡ pos 0) × (p .b ≡ pos 0) × (p .c ≡ pos 0) → ⊥
+  pub sloped : Sloped p
 
 -- a place in range
 pub record Small-place (q : Place) : Type 0 where

@@ -1,11 +1,61 @@
-//! On which side of a plane a place is.
+//! Planes in range, and on which side of a plane a place is.
 
 ghost use mathlib.Core.Path.{_≡_};
-ghost use Rattle.plane.specs.Limits.{Fits-plane, Small-place};
-ghost use Rattle.plane.specs.Planes.{height, side};
+ghost use Rattle.std.specs.Options.{Cases as BySome};
+ghost use Rattle.std.specs.Orderings.{Decides};
+ghost use Rattle.arith.specs.Bounds.{Short};
+ghost use Rattle.plane.specs.Limits.{Fits-plane, Gentle, Sloped, Small-place};
+ghost use Rattle.plane.specs.Planes.{height, side, turned};
+use super::types::OFFSET_LIMIT;
 use super::types::Place;
 use super::types::Plane;
+use super::types::SLOPE_LIMIT;
 use super::types::Side;
+
+/// Whether the number is from -limit to limit.
+fn within(n: i64, limit: u64) -> bool
+    ensures { λ r. ⌜ Decides r (Short n limit) ⌝ }
+{
+    n.unsigned_abs() <= limit
+}
+
+/// Whether the slopes are not all 0.
+fn sloped(p: Plane) -> bool
+    ensures { λ r. ⌜ Decides r (Sloped p) ⌝ }
+{
+    p.a != 0 || p.b != 0 || p.c != 0
+}
+
+/// Whether the slopes are in range.
+fn gentle(p: Plane) -> bool
+    ensures { λ r. ⌜ Decides r (Gentle p) ⌝ }
+{
+    within(p.a, SLOPE_LIMIT) && within(p.b, SLOPE_LIMIT) && within(p.c, SLOPE_LIMIT)
+}
+
+/// Whether the plane is in range.
+fn in_range(p: Plane) -> bool
+    ensures { λ r. ⌜ Decides r (Fits-plane p) ⌝ }
+{
+    gentle(p) && within(p.d, OFFSET_LIMIT) && sloped(p)
+}
+
+/// The plane with these numbers, if it is in range.
+pub fn plane_of(a: i64, b: i64, c: i64, d: i64) -> Option<Plane>
+    ensures { λ r. ⌜ BySome r (Fits-plane (record { a = a; b = b; c = c; d = d }) → ⊥) (λ p. (p ≡ record { a = a; b = b; c = c; d = d }) × Fits-plane p) ⌝ }
+{
+    let p = Plane { a, b, c, d };
+    if in_range(p) { Some(p) } else { None }
+}
+
+/// The plane, looked at from the other side.
+pub fn turned_round(p: Plane) -> Plane
+    requires { ⌜ Fits-plane p ⌝ }
+    ensures value { λ r. ⌜ r ≡ turned p ⌝ }
+    ensures fits { λ r. ⌜ Fits-plane r ⌝ }
+{
+    Plane { a: -p.a, b: -p.b, c: -p.c, d: -p.d }
+}
 
 /// How far the place is above the plane; below 0 where it is below.
 pub fn height_of(p: Plane, q: Place) -> i64

@@ -1,5 +1,14 @@
 //! Planes and places, by value.
 
+/// The slopes of a plane are from -6 to 6.
+pub const SLOPE_LIMIT: u64 = 6;
+
+/// The workshop ends at this in all six directions.
+pub const REACH: u64 = 16384;
+
+/// The offset of a plane is from this, negative, to this.
+pub const OFFSET_LIMIT: u64 = 3 * SLOPE_LIMIT * REACH;
+
 /// A plane: a place is below it if a x + b y + c z is less than d w.
 #[derive(Clone, Copy)]
 pub struct Plane {
