@@ -1,4 +1,6 @@
 pub mod Formulas
 pub mod Heights
 pub mod Invariance
+pub mod Places
 pub mod Ranges
+pub mod Coincidence

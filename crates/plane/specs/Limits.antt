@@ -63,3 +63,7 @@ determinant-limit = 6 * slope-limit ^ 3
 -- the same with a column of offsets in the place of one of slopes
 abbrev pub corner-limit : ℕ
 corner-limit = 6 * (offset-limit * slope-limit ^ 2)
+
+-- how far two rows of slopes go together: three products of two
+abbrev pub along-limit : ℕ
+along-limit = 3 * slope-limit ^ 2

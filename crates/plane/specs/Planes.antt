@@ -6,6 +6,10 @@ use lib.IntN.{ℤ, pos, negℤ, _+ℤ_, _-ℤ_, _*ℤ_}
 use lib.Signed.{ltZ, leZ}
 use Rattle.plane.specs.declared.types.Plane.{Plane}
 use Rattle.plane.specs.declared.types.Place.{Place}
+use Rattle.std.specs.declared.option.Option.{Option}
+use Rattle.std.specs.declared.option.Option.the-variants.{Some, None}
+use Rattle.plane.specs.declared.types.Facing.{Facing}
+use Rattle.plane.specs.declared.types.Facing.the-variants.{Alike, Opposite}
 use Rattle.plane.specs.declared.types.Side.{Side}
 use Rattle.plane.specs.declared.types.Side.the-variants.{Below, On, Above}
 
@@ -34,6 +38,10 @@ turned p = record { a = negℤ (p .a); b = negℤ (p .b); c = negℤ (p .c); d =
 unfoldable pub along : Plane → Plane → ℤ
 along p r = ((p .a *ℤ r .a) +ℤ (p .b *ℤ r .b)) +ℤ (p .c *ℤ r .c)
 
+-- all four numbers of a plane times k
+unfoldable pub multiplied : ℤ → Plane → Plane
+multiplied k p = record { a = k *ℤ p .a; b = k *ℤ p .b; c = k *ℤ p .c; d = k *ℤ p .d }
+
 -- a place in other terms: all four numbers times k
 unfoldable pub scaled : ℕ → Place → Place
 scaled k q = record { x = q .x *ℤ pos k; y = q .y *ℤ pos k; z = q .z *ℤ pos k; w = q .w * k }
@@ -50,6 +58,10 @@ same-way p r =
     (sameZ (p .a *ℤ r .b) (p .b *ℤ r .a) && (sameZ (p .a *ℤ r .c) (p .c *ℤ r .a) && sameZ (p .b *ℤ r .c) (p .c *ℤ r .b)))
     && ltZ (pos 0) (along p r)
 
+-- the one plane times the square of the other's direction is the other times how far the directions go together
+abbrev pub In-ratio : Plane → Plane → Type 0
+In-ratio p r = multiplied (along p p) r ≡ multiplied (along p r) p
+
 -- what two planes that are one have in common: the same places lie below them, or what is below the one is above the other
 abbrev pub One-alike : Plane → Plane → Type 0
 One-alike p r = (q : Place) → 0 < q .w → side r q ≡ side p q
@@ -63,3 +75,9 @@ pub record Apart (p r : Plane) : Type 0 where
   pub real : 0 < place .w
   pub on-one : on p place ≡ true
   pub off-other : on r place ≡ false
+
+-- what is said of two planes: that some place tells them apart, or which way each looks
+abbrev pub Coincide : Plane → Plane → Option Facing → Type 0
+Coincide p r None = Apart p r
+Coincide p r (Some Alike) = One-alike p r
+Coincide p r (Some Opposite) = One-opposite p r
