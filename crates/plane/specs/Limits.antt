@@ -2,6 +2,8 @@
 use mathlib.Core.Path.{_≡_}
 use Prim.Native.Nat.{ℕ, _+_, _-_, _*_, _^_, _≤_, _<_}
 use lib.IntN.{ℤ, pos}
+use Rattle.std.specs.Options.{Cases}
+use Rattle.std.specs.declared.option.Option.{Option}
 use Rattle.arith.specs.Bounds.{Short}
 use Rattle.plane.specs.declared.types.Plane.{Plane}
 use Rattle.plane.specs.declared.types.Place.{Place}
@@ -41,6 +43,10 @@ pub record Fits-plane (p : Plane) : Type 0 where
   pub c : Short (p .c) slope-limit
   pub d : Short (p .d) offset-limit
   pub sloped : Sloped p
+
+-- the plane if it is in range, and nothing if it isn't
+abbrev pub If-fits : Plane → Option Plane → Type 0
+If-fits p r = Cases r (Fits-plane p → ⊥) (λ q. (q ≡ p) × Fits-plane q)
 
 -- a place in range
 pub record Small-place (q : Place) : Type 0 where

@@ -1,10 +1,9 @@
 //! Planes in range, and on which side of a plane a place is.
 
 ghost use mathlib.Core.Path.{_≡_};
-ghost use Rattle.std.specs.Options.{Cases as BySome};
 ghost use Rattle.std.specs.Orderings.{Decides};
 ghost use Rattle.arith.specs.Bounds.{Short};
-ghost use Rattle.plane.specs.Limits.{Fits-plane, Gentle, Sloped, Small-place};
+ghost use Rattle.plane.specs.Limits.{Fits-plane, Gentle, If-fits, Sloped, Small-place};
 ghost use Rattle.plane.specs.Planes.{height, side, turned};
 use super::types::OFFSET_LIMIT;
 use super::types::Place;
@@ -40,12 +39,18 @@ fn in_range(p: Plane) -> bool
     gentle(p) && within(p.d, OFFSET_LIMIT) && sloped(p)
 }
 
+/// The plane, if it is in range.
+pub(crate) fn checked(p: Plane) -> Option<Plane>
+    ensures { λ r. ⌜ If-fits p r ⌝ }
+{
+    if in_range(p) { Some(p) } else { None }
+}
+
 /// The plane with these numbers, if it is in range.
 pub fn plane_of(a: i64, b: i64, c: i64, d: i64) -> Option<Plane>
-    ensures { λ r. ⌜ BySome r (Fits-plane (record { a = a; b = b; c = c; d = d }) → ⊥) (λ p. (p ≡ record { a = a; b = b; c = c; d = d }) × Fits-plane p) ⌝ }
+    ensures { λ r. ⌜ If-fits (record { a = a; b = b; c = c; d = d }) r ⌝ }
 {
-    let p = Plane { a, b, c, d };
-    if in_range(p) { Some(p) } else { None }
+    checked(Plane { a, b, c, d })
 }
 
 /// The plane, looked at from the other side.

@@ -1,9 +1,6 @@
-use mathlib.Core.Path.{_≡_, sym, subst}
 use Rattle.arith.proofs.Sized.{is-num, is-neg, is-back}
-use Rattle.plane.specs.declared.types.Plane.{Plane}
-use Rattle.plane.specs.Limits.{Fits-plane}
 use Rattle.plane.specs.Planes.{turned}
-use Rattle.plane.proofs.Ranges.{made, turned-fits}
+use Rattle.plane.proofs.Ranges.{made, as-fits, turned-fits}
 use Rattle.plane.proofs.sides.turned_round.Needs as need
 
 pub returns : need.returns
@@ -14,4 +11,4 @@ returns c =
     let g = is-back (is-neg (is-num (c .pre .c) tt)) tt in
     let d = is-back (is-neg (is-num (c .pre .d) tt)) tt in
     let e = made (turned (c .args .p)) (a .same) (b .same) (g .same) (d .same) in
-    record { value = e; fits = subst (λ (p : Plane). Fits-plane p) (sym e) (turned-fits (c .pre)) }
+    record { value = e; fits = as-fits e (turned-fits (c .pre)) }
