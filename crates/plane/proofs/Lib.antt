@@ -1,6 +1,9 @@
 pub mod Formulas
 pub mod Heights
 pub mod Invariance
-pub mod Places
 pub mod Ranges
+pub mod Places
 pub mod Coincidence
+pub mod Cramer
+pub mod Determinants
+pub mod Meeting
