@@ -1,12 +1,12 @@
-//! Planes and places, by value.
+//! Planes and places, by value, and the largest numbers of a plane.
 
-/// The slopes of a plane are from -6 to 6.
+/// The largest a, b or c of a plane.
 pub const SLOPE_LIMIT: u64 = 6;
 
-/// The workshop ends at this in all six directions.
+/// Where the workshop ends, in all six directions.
 pub const REACH: u64 = 16384;
 
-/// The offset of a plane is from this, negative, to this.
+/// The largest d of a plane: each plane that has a place in the workshop is in range.
 pub const OFFSET_LIMIT: u64 = 3 * SLOPE_LIMIT * REACH;
 
 /// A plane: a place is below it if a x + b y + c z is less than d w.
