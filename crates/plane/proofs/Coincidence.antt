@@ -1,12 +1,12 @@
 -- When two planes are one. With n and m the directions of p and r: r times n·n is p times n·m exactly if p and r are one.
 --     alike, opposite      if they are in that ratio, the sign of n·m says which way they look
 --     apart                else a place on p is off r: the foot of p, or the foot moved by n (n·m) - m (n·n), which goes along p
-use mathlib.Core.Path.{_≡_, refl, sym, _∙_, ap, subst}
-use mathlib.Core.Bool.{true, false}
+use mathlib.Core.Path.{_≡_, refl, sym, _∙_, ap}
+use mathlib.Core.Bool.{true}
 use mathlib.Core.Logic.{inl, inr}
 use native.Mathlib.Omega.{arith}
-use lib.IntN.{ℤ, pos, negsuc, _+ℤ_, _-ℤ_, _*ℤ_, zero-*ℤ, *ℤ-zero}
-use lib.Signed.{_<ℤ_, _≤ℤ_}
+use lib.IntN.{ℤ, pos, negsuc, _+ℤ_, _-ℤ_, _*ℤ_, zero-*ℤ}
+use lib.Signed.{_<ℤ_}
 use Rattle.std.proofs.shelf.Signed.{ints}
 use Rattle.std.proofs.shelf.Tests.{cases-bool}
 use Rattle.arith.proofs.Order.{minus, plus, sgn, times, sgn-mul, sgn-scaled, says-sgn, cancel-zero-pos, squares-zero, squares-positive}
@@ -19,7 +19,7 @@ use Rattle.plane.specs.Planes.{height, on, turned, along, multiplied, One-alik
 use Rattle.plane.proofs.Formulas.{Height, Dot}
 use Rattle.plane.proofs.Heights.{same-side, on-height, height-on}
 use Rattle.plane.proofs.Invariance.{sign-turned}
-use Rattle.plane.proofs.Places.{place, height-over, height-place, size-real}
+use Rattle.plane.proofs.Places.{place, height-place, size-real}
 use Rattle.plane.proofs.Ranges.{made}
 
 pub height-multiplied : (k : ℤ) (p : Plane) (q : Place) → height (multiplied k p) q ≡ k *ℤ height p q
@@ -53,9 +53,11 @@ module _ (p r : Plane) (s : Sloped p) (e : In-ratio p r) where
   pub along-nonzero : Sloped r → along p r ≡ pos 0 → ⊥
   unfolding multiplied
   along-nonzero t z =
-      t (vanishes (r .a) (p .a) (ap (λ (m : Plane). m .a) e) z,
-          vanishes (r .b) (p .b) (ap (λ (m : Plane). m .b) e) z,
-          vanishes (r .c) (p .c) (ap (λ (m : Plane). m .c) e) z)
+      t (
+        vanishes (r .a) (p .a) (ap (λ (m : Plane). m .a) e) z,
+        vanishes (r .b) (p .b) (ap (λ (m : Plane). m .b) e) z,
+        vanishes (r .c) (p .c) (ap (λ (m : Plane). m .c) e) z,
+      )
 
 -- ---- apart
 foot : Plane → Place

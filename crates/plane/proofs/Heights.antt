@@ -131,7 +131,7 @@ pub same-side : (p : Plane) (q : Place) (r : Plane) (s : Place) → sgn (height 
 same-side p q r s e = record {
   in-below = below-is p q ∙ ap is-minus e ∙ sym (below-is r s);
   in-on = on-is p q ∙ ap is-none e ∙ sym (on-is r s);
-  in-side = side-is p q ∙ ap side-at e ∙ sym (side-is r s)
+  in-side = side-is p q ∙ ap side-at e ∙ sym (side-is r s);
 }
 
 pub by-side : (p : Plane) (q : Place) (r : Plane) (s : Place) → side p q ≡ side r s → Same-side p q r s

@@ -7,11 +7,11 @@ use mathlib.Core.Path.{_≡_, refl, sym, _∙_, ap}
 use mathlib.Core.Bool.{not, _||_}
 use Prim.Native.Nat.{ℕ, _<_}
 use native.Mathlib.Omega.{arith}
-use lib.IntN.{ℤ, pos, negℤ, _*ℤ_, *ℤ-comm}
+use lib.IntN.{pos, negℤ, _*ℤ_, *ℤ-comm}
 use lib.Signed.{_<ℤ_}
 use Rattle.std.proofs.shelf.Signed.{ints}
 use Rattle.arith.proofs.Order.{Sign, minus, none, plus, sgn, opposite, sgn-neg, sgn-scaled}
-use Rattle.arith.proofs.Poly.{Expr, negE, _:+_, _:-_, _:*_}
+use Rattle.arith.proofs.Poly.{negE, _:+_, _:*_}
 use Rattle.arith.proofs.Solve.{solve, _:=_, _·_⇒_}
 use Rattle.plane.specs.declared.types.Plane.{Plane}
 use Rattle.plane.specs.declared.types.Place.{Place}
@@ -67,10 +67,10 @@ one-place-side p q r e h k =
     let l : pos 0 <ℤ pos (q .w) = omega (arith, ints) in
     let m : pos 0 <ℤ pos (r .w) = omega (arith, ints) in
     let s : pos (r .w) *ℤ height p q ≡ pos (q .w) *ℤ height p r =
-        solve 12 (λ a b c d x y z w i j k l.
-        a · x :* l := i :* w ⇒ b · y :* l := j :* w ⇒ c · z :* l := k :* w ⇒
-        l :* Height a b c d x y z w := w :* Height a b c d i j k l) refl
-        (p .a) (p .b) (p .c) (p .d) (q .x) (q .y) (q .z) (pos (q .w)) (r .x) (r .y) (r .z) (pos (r .w)) (e .x) (e .y) (e .z) in
+    solve 12 (λ a b c d x y z w i j k l.
+    a · x :* l := i :* w ⇒ b · y :* l := j :* w ⇒ c · z :* l := k :* w ⇒
+    l :* Height a b c d x y z w := w :* Height a b c d i j k l) refl
+    (p .a) (p .b) (p .c) (p .d) (q .x) (q .y) (q .z) (pos (q .w)) (r .x) (r .y) (r .z) (pos (r .w)) (e .x) (e .y) (e .z) in
     same-side p q p r (sym (sgn-scaled (pos (r .w)) (height p q) m) ∙ ap sgn s ∙ sgn-scaled (pos (q .w)) (height p r) l)
 
 -- ---- planes and places moved together

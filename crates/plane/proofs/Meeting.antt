@@ -7,12 +7,12 @@ use Rattle.std.proofs.shelf.Signed.{ints}
 use Rattle.arith.specs.Bounds.{Short}
 use Rattle.arith.proofs.Ring.{one-*ℤ, minus-one-*}
 use Rattle.arith.proofs.Sized.{short-neg}
-use Rattle.arith.proofs.Poly.{Expr, con, negE, _:+_, _:-_, _:*_}
+use Rattle.arith.proofs.Poly.{con, negE, _:-_, _:*_}
 use Rattle.arith.proofs.Solve.{solve, _:=_, _·_⇒_}
 use Rattle.plane.specs.declared.types.Plane.{Plane}
 use Rattle.plane.specs.declared.types.Place.{Place}
 use Rattle.plane.specs.Limits.{Fits-plane, determinant-limit, corner-limit}
-use Rattle.plane.specs.Planes.{height, on, Same-place}
+use Rattle.plane.specs.Planes.{height, Same-place}
 use Rattle.plane.specs.Moves.{rolled-plane, rolled-place}
 use Rattle.plane.specs.Meets.{determinant, Meet, Met}
 use Rattle.plane.specs.Cramer.{offset-first, numerator-x, numerator-y, numerator-z, over}
@@ -34,7 +34,7 @@ at-turned {p} {q} {r} {s} {m} a = record {
   at-x = a .at-x ∙ ap (λ (n : ℤ). m *ℤ n) (sym (turn-rows (offset-first p) (offset-first q) (offset-first r)));
   at-y = a .at-y ∙ ap (λ (n : ℤ). m *ℤ n) (sym (turn-rows _ _ _));
   at-z = a .at-z ∙ ap (λ (n : ℤ). m *ℤ n) (sym (turn-rows _ _ _));
-  at-w = a .at-w ∙ ap (λ (n : ℤ). m *ℤ n) (sym (turn-rows p q r))
+  at-w = a .at-w ∙ ap (λ (n : ℤ). m *ℤ n) (sym (turn-rows p q r));
 }
 
 on-first : (p q r : Plane) (s : Place) (m : ℤ) → At p q r s m → height p s ≡ pos 0
@@ -58,7 +58,7 @@ shared-rolled : {p q r : Plane} {t : Place} → Shared p q r t → Shared (rolle
 shared-rolled {p} {q} {r} {t} h = record {
   first = rolled-together p t ∙ h .first;
   second = rolled-together q t ∙ h .second;
-  third = rolled-together r t ∙ h .third
+  third = rolled-together r t ∙ h .third;
 }
 
 same-x : (p q r : Plane) (s t : Place) (m : ℤ) → s .x ≡ m *ℤ numerator-x p q r → pos (s .w) ≡ m *ℤ determinant p q r → Shared p q r t → s .x *ℤ pos (t .w) ≡ t .x *ℤ pos (s .w)
@@ -90,7 +90,7 @@ same-place : (p q r : Plane) (s : Place) (m : ℤ) → At p q r s m → (t : Pla
 same-place p q r s m a t h = record {
   x = same-x p q r s t m (a .at-x) (a .at-w) h;
   y = same-y p q r s t m (a .at-y) (a .at-w) h;
-  z = same-z p q r s t m (a .at-z) (a .at-w) h
+  z = same-z p q r s t m (a .at-z) (a .at-w) h;
 }
 
 module _ (p q r : Plane) (f : Fits-plane p) (g : Fits-plane q) (h : Fits-plane r) where
@@ -107,7 +107,7 @@ module _ (p q r : Plane) (f : Fits-plane p) (g : Fits-plane q) (h : Fits-plane r
     w-small = w;
     x-small = x;
     y-small = y;
-    z-small = z
+    z-small = z;
   }
 
   pub met : (w : ℤ) → determinant p q r ≡ w → Met p q r (over (numerator-x p q r) (numerator-y p q r) (numerator-z p q r) w)
@@ -115,14 +115,16 @@ module _ (p q r : Plane) (f : Fits-plane p) (g : Fits-plane q) (h : Fits-plane r
   met (pos zero) e = e
   met (pos (suc n)) e = (
     meet-at _ (pos 1) (record { at-x = sym (one-*ℤ _); at-y = sym (one-*ℤ _); at-z = sym (one-*ℤ _); at-w = sym (one-*ℤ _ ∙ e) })
-    (omega arith) (small _ e) (x-short f g h) (y-short f g h) (z-short f g h),
-    λ z. let k : _≡_ (pos (suc n)) (pos 0) = sym e ∙ z in absurd (omega (arith, ints)))
+        (omega arith) (small _ e) (x-short f g h) (y-short f g h) (z-short f g h),
+    λ z. let k : _≡_ (pos (suc n)) (pos 0) = sym e ∙ z in absurd (omega (arith, ints)),
+  )
   met (negsuc n) e = (
     meet-at _ (negsuc 0) (record {
       at-x = sym (minus-one-* (numerator-x p q r));
       at-y = sym (minus-one-* (numerator-y p q r));
       at-z = sym (minus-one-* (numerator-z p q r));
-      at-w = sym (minus-one-* (determinant p q r) ∙ ap negℤ e)
+      at-w = sym (minus-one-* (determinant p q r) ∙ ap negℤ e);
     })
-    (omega arith) (small _ e) (short-neg (x-short f g h)) (short-neg (y-short f g h)) (short-neg (z-short f g h)),
-    λ z. let k : _≡_ (negsuc n) (pos 0) = sym e ∙ z in absurd (omega (arith, ints)))
+        (omega arith) (small _ e) (short-neg (x-short f g h)) (short-neg (y-short f g h)) (short-neg (z-short f g h)),
+    λ z. let k : _≡_ (negsuc n) (pos 0) = sym e ∙ z in absurd (omega (arith, ints)),
+  )

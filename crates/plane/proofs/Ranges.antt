@@ -1,5 +1,5 @@
 -- Planes in range: a changed plane is in range where the plane is, and a plane that the code puts together is the one with its numbers.
-use mathlib.Core.Path.{_≡_, refl, sym, _∙_, ap, subst}
+use mathlib.Core.Path.{_≡_, _∙_, ap}
 use native.Mathlib.Omega.{arith}
 use lib.IntN.{ℤ, pos, negℤ}
 use Rattle.std.proofs.shelf.Signed.{ints}
@@ -16,9 +16,6 @@ made {s} {t} {u} {v} p a b c d =
     ∙ ap (λ (n : ℤ). record { a = p .a; b = p .b; c = n; d = v }) c
     ∙ ap (λ (n : ℤ). record { a = p .a; b = p .b; c = p .c; d = n }) d
 
-pub as-fits : {r p : Plane} → r ≡ p → Fits-plane p → Fits-plane r
-as-fits e f = subst (λ (p : Plane). Fits-plane p) (sym e) f
-
 neg-zero : (z : ℤ) → negℤ z ≡ pos 0 → z ≡ pos 0
 neg-zero z e = omega (arith, ints)
 
@@ -29,7 +26,7 @@ turned-fits f = record {
   b = short-neg (f .b);
   c = short-neg (f .c);
   d = short-neg (f .d);
-  sloped = λ z. f .sloped (neg-zero _ (z .0), neg-zero _ (z .1), neg-zero _ (z .2))
+  sloped = λ z. f .sloped (neg-zero _ (z .0), neg-zero _ (z .1), neg-zero _ (z .2));
 }
 
 pub mirrored-fits : {p : Plane} → Fits-plane p → Fits-plane (mirrored-plane p)

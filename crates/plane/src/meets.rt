@@ -1,7 +1,6 @@
 //! Where three planes meet, by Cramer's rule.
 
 ghost use mathlib.Core.Path.{_≡_};
-ghost use lib.IntN.{pos};
 ghost use Rattle.arith.specs.Bounds.{Short};
 ghost use Rattle.plane.specs.Limits.{Fits-plane, corner-limit};
 ghost use Rattle.plane.specs.Meets.{determinant, Met};
@@ -30,7 +29,12 @@ fn with_offset_first(p: Plane) -> Plane
     ensures value { λ r. ⌜ r ≡ offset-first p ⌝ }
     ensures fits { λ r. ⌜ Fits-row r ⌝ }
 {
-    Plane { a: p.d, b: p.b, c: p.c, d: p.d }
+    Plane {
+        a: p.d,
+        b: p.b,
+        c: p.c,
+        d: p.d,
+    }
 }
 
 /// What x of the meet is, times the determinant.
@@ -41,7 +45,11 @@ fn numerator_x(p: Plane, q: Plane, r: Plane) -> i64
     ensures value { λ s. ⌜ s ≡ numerator-x p q r ⌝ }
     ensures short { λ s. ⌜ Short s corner-limit ⌝ }
 {
-    determinant_of(with_offset_first(p), with_offset_first(q), with_offset_first(r))
+    determinant_of(
+        with_offset_first(p),
+        with_offset_first(q),
+        with_offset_first(r),
+    )
 }
 
 /// The same for z, which comes to the place of x.
@@ -77,9 +85,19 @@ fn place_over(x: i64, y: i64, z: i64, w: i64) -> Option<Place>
     if w == 0 {
         None
     } else if w > 0 {
-        Some(Place { x, y, z, w: w as u64 })
+        Some(Place {
+            x,
+            y,
+            z,
+            w: w as u64,
+        })
     } else {
-        Some(Place { x: -x, y: -y, z: -z, w: -w as u64 })
+        Some(Place {
+            x: -x,
+            y: -y,
+            z: -z,
+            w: -w as u64,
+        })
     }
 }
 
@@ -90,5 +108,10 @@ pub fn meet(p: Plane, q: Plane, r: Plane) -> Option<Place>
     requires r { ⌜ Fits-plane r ⌝ }
     ensures { λ s. ⌜ Met p q r s ⌝ }
 {
-    place_over(numerator_x(p, q, r), numerator_y(p, q, r), numerator_z(p, q, r), determinant_of(p, q, r))
+    place_over(
+        numerator_x(p, q, r),
+        numerator_y(p, q, r),
+        numerator_z(p, q, r),
+        determinant_of(p, q, r),
+    )
 }

@@ -14,7 +14,12 @@ fn shifted(p: Plane, t: Shift) -> Plane
     requires shift { ⌜ Fits-shift t ⌝ }
     ensures { λ r. ⌜ r ≡ moved-plane t p ⌝ }
 {
-    Plane { a: p.a, b: p.b, c: p.c, d: p.d + (p.a * t.x + p.b * t.y + p.c * t.z) }
+    Plane {
+        a: p.a,
+        b: p.b,
+        c: p.c,
+        d: p.d + (p.a * t.x + p.b * t.y + p.c * t.z),
+    }
 }
 
 /// The plane moved by a step, if it is then in range.
@@ -34,7 +39,12 @@ pub fn mirrored(p: Plane) -> Plane
     ensures fits { λ r. ⌜ Fits-plane r ⌝ }
     ensures heights { λ _. ⌜ Together mirrored-plane mirrored-place ⌝ }
 {
-    Plane { a: -p.a, b: p.b, c: p.c, d: p.d }
+    Plane {
+        a: -p.a,
+        b: p.b,
+        c: p.c,
+        d: p.d,
+    }
 }
 
 /// The plane with x and y exchanged.
@@ -44,7 +54,12 @@ pub fn swapped(p: Plane) -> Plane
     ensures fits { λ r. ⌜ Fits-plane r ⌝ }
     ensures heights { λ _. ⌜ Together swapped-plane swapped-place ⌝ }
 {
-    Plane { a: p.b, b: p.a, c: p.c, d: p.d }
+    Plane {
+        a: p.b,
+        b: p.a,
+        c: p.c,
+        d: p.d,
+    }
 }
 
 /// The plane turned from x to y to z to x.
@@ -54,5 +69,10 @@ pub fn rolled(p: Plane) -> Plane
     ensures fits { λ r. ⌜ Fits-plane r ⌝ }
     ensures heights { λ _. ⌜ Together rolled-plane rolled-place ⌝ }
 {
-    Plane { a: p.c, b: p.a, c: p.b, d: p.d }
+    Plane {
+        a: p.c,
+        b: p.a,
+        c: p.b,
+        d: p.d,
+    }
 }

@@ -24,7 +24,12 @@ fn times(k: i64, p: Plane) -> Plane
     requires p { ⌜ Fits-plane p ⌝ }
     ensures { λ r. ⌜ r ≡ multiplied k p ⌝ }
 {
-    Plane { a: k * p.a, b: k * p.b, c: k * p.c, d: k * p.d }
+    Plane {
+        a: k * p.a,
+        b: k * p.b,
+        c: k * p.c,
+        d: k * p.d,
+    }
 }
 
 /// Whether the planes have the same numbers.

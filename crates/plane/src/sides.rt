@@ -59,7 +59,12 @@ pub fn turned_round(p: Plane) -> Plane
     ensures value { λ r. ⌜ r ≡ turned p ⌝ }
     ensures fits { λ r. ⌜ Fits-plane r ⌝ }
 {
-    Plane { a: -p.a, b: -p.b, c: -p.c, d: -p.d }
+    Plane {
+        a: -p.a,
+        b: -p.b,
+        c: -p.c,
+        d: -p.d,
+    }
 }
 
 /// How far the place is above the plane; below 0 where it is below.

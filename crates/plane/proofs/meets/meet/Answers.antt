@@ -1,4 +1,4 @@
-use mathlib.Core.Path.{_≡_, refl, sym, _∙_, subst}
+use mathlib.Core.Path.{refl, sym, _∙_, subst}
 use Rattle.std.specs.declared.option.Option.{Option}
 use Rattle.arith.proofs.Sized.{is-call, is-back}
 use Rattle.plane.specs.declared.types.Place.{Place}

@@ -1,7 +1,6 @@
-use mathlib.Core.Path.{_≡_, sym}
+use mathlib.Core.Path.{_≡_}
 use native.Mathlib.Omega.{arith}
 use lib.IntN.{pos, negℤ, natAbs, _-ℤ_}
-use lib.Signed.{_<ℤ_}
 use Rattle.std.proofs.shelf.Signed.{ints}
 use Rattle.arith.proofs.Sized.{is-num, is-neg, is-back}
 use Rattle.arith.proofs.Steps.{back}

@@ -7,5 +7,5 @@ use Rattle.plane.proofs.moves.moved.Needs as need
 pub returns : need.returns
 returns c = record {
   value = subst (λ (m : Plane). If-fits m (c .checked .result)) (c .shifted .ensures) (c .checked .ensures);
-  heights = moved-together (c .args .t)
+  heights = moved-together (c .args .t);
 }
