@@ -2,6 +2,7 @@ pub mod Formulas
 pub mod Heights
 pub mod Invariance
 pub mod Ranges
+pub mod Weights
 pub mod Places
 pub mod Coincidence
 pub mod Cramer

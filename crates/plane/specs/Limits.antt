@@ -73,3 +73,7 @@ corner-limit = 6 * (offset-limit * slope-limit ^ 2)
 -- how far two rows of slopes go together: three products of two
 abbrev pub along-limit : ℕ
 along-limit = 3 * slope-limit ^ 2
+
+-- slopes times coordinates: three products of two
+abbrev pub weight-limit : ℕ
+weight-limit = 3 * (slope-limit * coordinate-limit)

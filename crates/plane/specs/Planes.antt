@@ -17,6 +17,10 @@ use Rattle.plane.specs.declared.types.Side.the-variants.{Below, On, Above}
 unfoldable pub sameZ : ℤ → ℤ → Bool
 sameZ a b = leZ a b && leZ b a
 
+-- a x + b y + c z
+abbrev pub weight : Plane → ℤ → ℤ → ℤ → ℤ
+weight p x y z = ((p .a *ℤ x) +ℤ (p .b *ℤ y)) +ℤ (p .c *ℤ z)
+
 -- how far a place is above a plane, in units of the place's w and the plane's slopes
 unfoldable pub height : Plane → Place → ℤ
 height p q = (((p .a *ℤ q .x) +ℤ (p .b *ℤ q .y)) +ℤ (p .c *ℤ q .z)) -ℤ (p .d *ℤ pos (q .w))

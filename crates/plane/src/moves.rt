@@ -5,6 +5,7 @@ ghost use mathlib.Core.Path.{_≡_};
 ghost use Rattle.plane.specs.Limits.{Fits-plane, Fits-shift, If-fits};
 ghost use Rattle.plane.specs.Moves.{Together, moved-plane, moved-place, mirrored-plane, mirrored-place, swapped-plane, swapped-place, rolled-plane, rolled-place};
 use super::sides::checked;
+use super::sides::weighed;
 use super::types::Plane;
 use super::types::Shift;
 
@@ -18,7 +19,7 @@ fn shifted(p: Plane, t: Shift) -> Plane
         a: p.a,
         b: p.b,
         c: p.c,
-        d: p.d + (p.a * t.x + p.b * t.y + p.c * t.z),
+        d: p.d + weighed(p, t.x, t.y, t.z),
     }
 }
 

@@ -5,6 +5,7 @@ ghost use Rattle.std.specs.Orderings.{Decides};
 ghost use Rattle.arith.specs.Bounds.{Short};
 ghost use Rattle.plane.specs.Limits.{Fits-plane, along-limit};
 ghost use Rattle.plane.specs.Planes.{along, multiplied, In-ratio, Coincide};
+use super::sides::weighed;
 use super::types::Facing;
 use super::types::Plane;
 
@@ -15,7 +16,7 @@ fn along_of(p: Plane, r: Plane) -> i64
     ensures value { λ s. ⌜ s ≡ along p r ⌝ }
     ensures short { λ s. ⌜ Short s along-limit ⌝ }
 {
-    p.a * r.a + p.b * r.b + p.c * r.c
+    weighed(p, r.a, r.b, r.c)
 }
 
 /// The plane with all numbers times k.

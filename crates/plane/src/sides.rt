@@ -3,8 +3,8 @@
 ghost use mathlib.Core.Path.{_≡_};
 ghost use Rattle.std.specs.Orderings.{Decides};
 ghost use Rattle.arith.specs.Bounds.{Short};
-ghost use Rattle.plane.specs.Limits.{Fits-plane, Gentle, If-fits, Sloped, Small-place};
-ghost use Rattle.plane.specs.Planes.{height, side, turned};
+ghost use Rattle.plane.specs.Limits.{Fits-plane, Gentle, If-fits, Sloped, Small-place, coordinate-limit, weight-limit};
+ghost use Rattle.plane.specs.Planes.{height, side, turned, weight};
 use super::types::OFFSET_LIMIT;
 use super::types::Place;
 use super::types::Plane;
@@ -67,13 +67,25 @@ pub fn turned_round(p: Plane) -> Plane
     }
 }
 
+/// a x + b y + c z.
+pub(crate) fn weighed(p: Plane, x: i64, y: i64, z: i64) -> i64
+    requires p { ⌜ Fits-plane p ⌝ }
+    requires x { ⌜ Short x coordinate-limit ⌝ }
+    requires y { ⌜ Short y coordinate-limit ⌝ }
+    requires z { ⌜ Short z coordinate-limit ⌝ }
+    ensures value { λ r. ⌜ r ≡ weight p x y z ⌝ }
+    ensures short { λ r. ⌜ Short r weight-limit ⌝ }
+{
+    p.a * x + p.b * y + p.c * z
+}
+
 /// How far the place is above the plane; below 0 where it is below.
 pub fn height_of(p: Plane, q: Place) -> i64
     requires plane { ⌜ Fits-plane p ⌝ }
     requires place { ⌜ Small-place q ⌝ }
     ensures { λ r. ⌜ r ≡ height p q ⌝ }
 {
-    p.a * q.x + p.b * q.y + p.c * q.z - p.d * q.w as i64
+    weighed(p, q.x, q.y, q.z) - p.d * q.w as i64
 }
 
 /// On which side of the plane the place is.
