@@ -15,7 +15,8 @@ use Rattle.arith.proofs.Solve.{solve, _:=_, _·_⇒_, _⟹_}
 use Rattle.plane.specs.declared.types.Plane.{Plane}
 use Rattle.plane.specs.declared.types.Place.{Place}
 use Rattle.plane.specs.Limits.{Sloped}
-use Rattle.plane.specs.Planes.{height, on, turned, along, multiplied, One-alike, One-opposite, Apart, In-ratio}
+use Rattle.plane.specs.Planes.{height, on, turned, along, One-alike, One-opposite, Apart}
+use Rattle.plane.specs.Ratios.{multiplied, In-ratio}
 use Rattle.plane.proofs.Formulas.{Height, Dot}
 use Rattle.plane.proofs.Heights.{same-side, on-height, height-on}
 use Rattle.plane.proofs.Invariance.{sign-turned}

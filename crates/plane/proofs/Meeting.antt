@@ -1,17 +1,19 @@
 -- Where three planes meet: with m 1 or -1, the place (m x, m y, m z, m w) of Cramer's numerators and the determinant is on all three, and no other is.
 use mathlib.Core.Path.{_≡_, refl, sym, _∙_, ap, subst}
 use Prim.Native.Nat.{zero, suc, _<_, _≤_}
+use native.Mathlib.Nat.{le-trans}
 use native.Mathlib.Omega.{arith}
+use lib.Dec.{lit≤}
 use lib.IntN.{ℤ, pos, negsuc, negℤ, natAbs, _*ℤ_}
 use Rattle.std.proofs.shelf.Signed.{ints}
 use Rattle.arith.specs.Bounds.{Short}
 use Rattle.arith.proofs.Ring.{one-*ℤ, minus-one-*}
-use Rattle.arith.proofs.Sized.{short-neg}
+use Rattle.arith.proofs.Sized.{short-neg, short-more}
 use Rattle.arith.proofs.Poly.{con, negE, _:-_, _:*_}
 use Rattle.arith.proofs.Solve.{solve, _:=_, _·_⇒_}
 use Rattle.plane.specs.declared.types.Plane.{Plane}
 use Rattle.plane.specs.declared.types.Place.{Place}
-use Rattle.plane.specs.Limits.{Fits-plane, determinant-limit, corner-limit}
+use Rattle.plane.specs.Limits.{Fits-plane, Small-place, determinant-limit, corner-limit, coordinate-limit}
 use Rattle.plane.specs.Planes.{height, Same-place}
 use Rattle.plane.specs.Moves.{rolled-plane, rolled-place}
 use Rattle.plane.specs.Meets.{determinant, Meet, Met}
@@ -128,3 +130,13 @@ module _ (p q r : Plane) (f : Fits-plane p) (g : Fits-plane q) (h : Fits-plane r
         (omega arith) (small _ e) (short-neg (x-short f g h)) (short-neg (y-short f g h)) (short-neg (z-short f g h)),
     λ z. let k : _≡_ (negsuc n) (pos 0) = sym e ∙ z in absurd (omega (arith, ints)),
   )
+
+-- the side of such a place can be told
+pub meet-small : {p q r : Plane} {s : Place} → Meet p q r s → Small-place s
+meet-small m = record {
+  x = short-more coordinate-limit (m .x-small) tt;
+  y = short-more coordinate-limit (m .y-small) tt;
+  z = short-more coordinate-limit (m .z-small) tt;
+  w = le-trans (m .w-small) (lit≤ tt);
+  real = m .real;
+}

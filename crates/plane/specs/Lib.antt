@@ -3,3 +3,4 @@ pub mod Planes
 pub mod Meets
 pub mod Moves
 pub mod Cramer
+pub mod Ratios

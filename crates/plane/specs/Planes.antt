@@ -42,10 +42,6 @@ turned p = record { a = negℤ (p .a); b = negℤ (p .b); c = negℤ (p .c); d =
 unfoldable pub along : Plane → Plane → ℤ
 along p r = ((p .a *ℤ r .a) +ℤ (p .b *ℤ r .b)) +ℤ (p .c *ℤ r .c)
 
--- all four numbers of a plane times k
-unfoldable pub multiplied : ℤ → Plane → Plane
-multiplied k p = record { a = k *ℤ p .a; b = k *ℤ p .b; c = k *ℤ p .c; d = k *ℤ p .d }
-
 -- a place in other terms: all four numbers times k
 unfoldable pub scaled : ℕ → Place → Place
 scaled k q = record { x = q .x *ℤ pos k; y = q .y *ℤ pos k; z = q .z *ℤ pos k; w = q .w * k }
@@ -61,10 +57,6 @@ unfoldable pub same-way : Plane → Plane → Bool
 same-way p r =
     (sameZ (p .a *ℤ r .b) (p .b *ℤ r .a) && (sameZ (p .a *ℤ r .c) (p .c *ℤ r .a) && sameZ (p .b *ℤ r .c) (p .c *ℤ r .b)))
     && ltZ (pos 0) (along p r)
-
--- the one plane times the square of the other's direction is the other times how far the directions go together
-abbrev pub In-ratio : Plane → Plane → Type 0
-In-ratio p r = multiplied (along p p) r ≡ multiplied (along p r) p
 
 -- what two planes that are one have in common: the same places lie below them, or what is below the one is above the other
 abbrev pub One-alike : Plane → Plane → Type 0

@@ -1,7 +1,8 @@
 use mathlib.Core.Path.{_≡_, sym, _∙_, ap}
 use lib.IntN.{ℤ}
 use Rattle.arith.proofs.Sized.{is-call, is-back}
-use Rattle.plane.specs.Planes.{along, multiplied}
+use Rattle.plane.specs.Planes.{along}
+use Rattle.plane.specs.Ratios.{multiplied}
 use Rattle.plane.proofs.planes.in_ratio.Needs as need
 
 pub returns : need.returns

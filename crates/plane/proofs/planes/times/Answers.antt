@@ -1,5 +1,5 @@
 use Rattle.arith.proofs.Sized.{is-num, is-mul, is-back, is-fits}
-use Rattle.plane.specs.Planes.{multiplied}
+use Rattle.plane.specs.Ratios.{multiplied}
 use Rattle.plane.proofs.Ranges.{made}
 use Rattle.plane.proofs.planes.times.Needs as need
 
