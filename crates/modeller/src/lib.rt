@@ -6,12 +6,13 @@ ghost use lib.ListN.{length};
 ghost use Rattle.solid.specs.Examples.{told};
 ghost use Rattle.solid.specs.Shapes.{Shape, Fits};
 ghost use Rattle.solid.specs.Steps.{words};
-ghost use Rattle.modeller.specs.Drawings.{Opened};
+ghost use Rattle.modeller.specs.Drawings.{Opened, number-and-place};
 ghost use Rattle.modeller.specs.Replies.{asks, refusal-of, Replied, place-in, steps-in, Ready, work-needed};
 pub mod drawing;
 pub mod types;
 use drawing::Drawing;
 use plane::types::Place;
+use reader::types::Refusal;
 use solid::value::place_told;
 use types::Refused;
 use types::Reply;
@@ -77,6 +78,35 @@ impl<'t, 's> Drawing<'t, 's> {
             return Reply::NoQuestion;
         }
         place_reply(self.steps, self.asked, k, work)
+    }
+}
+
+impl Refused {
+    /// The refusal's number.
+    pub fn number(self) -> usize
+        ensures { λ r. ⌜ r ≡ number-and-place self .number ⌝ }
+    {
+        match self {
+            Refused::Text(Refusal::Grammar(_)) => 1,
+            Refused::Text(Refusal::Name(_)) => 2,
+            Refused::Text(Refusal::Limit(_)) => 3,
+            Refused::Text(Refusal::Range(_)) => 4,
+            Refused::Steps | Refused::Work => 5,
+        }
+    }
+
+    /// Where it is refused.
+    pub fn place(self) -> usize
+        ensures { λ r. ⌜ r ≡ number-and-place self .place ⌝ }
+    {
+        match self {
+            Refused::Text(Refusal::Grammar(at))
+            | Refused::Text(Refusal::Name(at))
+            | Refused::Text(Refusal::Limit(at))
+            | Refused::Text(Refusal::Range(at)) => at,
+            Refused::Steps => 0,
+            Refused::Work => 1,
+        }
     }
 }
 
