@@ -8,3 +8,4 @@ pub mod Spacing
 pub mod First
 pub mod Values
 pub mod Fine
+pub mod Told
