@@ -1,34 +1,34 @@
 -- The questions of lines that are taken, as they lie in words.
 use mathlib.Core.Path.{_≡_, refl, sym, _∙_, ap, subst}
 use mathlib.Core.List.{List, [], _∷_, _++_, append-assoc, append-nil}
-use mathlib.Core.Bool.{Bool, true, false, cond, not, _&&_, _||_}
-use mathlib.Core.Logic.{_⊎_, inl, inr}
-use Prim.Native.Nat.{ℕ, zero, suc, _+_, _-_, _*_, _≤_, _<_}
+use mathlib.Core.Bool.{Bool, true, false, _||_}
+use mathlib.Core.Logic.{inl, inr}
+use Prim.Native.Nat.{ℕ, zero, suc, _+_, _*_, _≤_, _<_}
 use native.Mathlib.Nat.{add-zero, zero-add}
 use native.Mathlib.Omega.{arith}
 use borrow.Author.Needs.{needs}
-use lib.IntN.{ℤ, pos, negsuc, negℤ, natAbs}
+use lib.IntN.{ℤ, negℤ, natAbs}
 use lib.ListN.{length, take, drop, getD}
 use mir.Syntax.{w64}
 use mir.Val.{ofZ}
 use Rattle.std.specs.shelf.Lists.{All}
 use Rattle.std.proofs.shelf.Signed.{ints}
 use Rattle.std.proofs.shelf.Lists.{take-at, take-append-le, take-append-drop, getD-take, map-push, drop-at, drop-append-le, drop-drop, length-append, length-drop, getD-append-add}
-use Rattle.std.proofs.shelf.Tests.{and-parts, both-ways, cond-true, cond-false}
+use Rattle.std.proofs.shelf.Tests.{both-ways, cond-true, cond-false}
 use Rattle.arith.specs.Bounds.{Short}
 use Rattle.plane.specs.declared.types.Plane.{Plane}
-use Rattle.plane.specs.declared.types.Place.{Place}
 use Rattle.plane.specs.Limits.{Fits-plane, Small-place}
-use Rattle.solid.specs.Shapes.{Shape, Fits, Has, plane, planes, box as box-of}
+use Rattle.solid.specs.Shapes.{Shape, Fits, Has, planes, box as box-of}
 use Rattle.solid.specs.Steps.{words}
 use Rattle.solid.proofs.Members.{has-none, has-either}
-use Rattle.grammar.specs.Values.{number-limit, scale-most}
+use Rattle.grammar.specs.Values.{number-limit}
 use Rattle.grammar.specs.Grammar.{Expr, half, box, two, move, one, called, Line, part, place, same-as, meet, model, same, oneOf}
 use Rattle.grammar.specs.Meaning.{Part, says, named, Question, where-is, at, questions, fine-shape, fine}
 use Rattle.reader.specs.Asked.{Lies}
 use Rattle.reader.specs.declared.types.Counts.{Counts}
 use Rattle.reader.specs.Layout.{Laid, with-part, part-steps, spot, asked-words}
-use Rattle.reader.proofs.Laying.{names-of, steps-of, steps-push, part-sound, place-sound}
+use Rattle.reader.proofs.Spots.{names-of, steps-of, steps-push}
+use Rattle.reader.proofs.Next.{part-sound, place-sound}
 use Rattle.reader.proofs.Numbers.{Numbers, box-numbers, Coordinates, place-numbers}
 
 -- a box in range

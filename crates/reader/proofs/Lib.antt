@@ -7,5 +7,7 @@ pub mod Spans
 pub mod Ranks
 pub mod Numbers
 pub mod Pairs
+pub mod Spots
+pub mod Next
 pub mod Laying
 pub mod Asked
