@@ -1,4 +1,7 @@
--- How many pieces and faces a place is in: the counts of an append add up, and with no pieces there is nothing.
+-- How many pieces and faces a place is in.
+--     all-below-append, none-above-append            of the planes of an append
+--     in-pieces-append, in-faces-append              the counts of an append add up
+--     nothing-there                                  a right model without pieces is of an empty shape
 use mathlib.Core.Path.{_≡_, refl, sym, ap, _∙_}
 use mathlib.Core.Bool.{Bool, true, false, cond, _&&_, not}
 use mathlib.Core.List.{List, [], _∷_, _++_}

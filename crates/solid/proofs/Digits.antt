@@ -1,5 +1,7 @@
--- A step in range is the step of its word: the digits of a plane's number are its slopes and its offset.
-use mathlib.Core.Path.{_≡_, refl, sym, ap, ap₂, _∙_, subst}
+-- The digits of a plane's number are its slopes and its offset.
+--     numbered, step-word                            a plane, and a step, in range come back from their number
+--     step-half                                      what a word of 3 and more means
+use mathlib.Core.Path.{_≡_, refl, ap, _∙_}
 use Prim.Native.Nat.{ℕ, _+_, _-_, _*_, _/_, _%_, _<_}
 use native.Mathlib.Nat.{add-comm, mul-comm, mod-eq-of-lt}
 use native.Mathlib.Omega.{arith}

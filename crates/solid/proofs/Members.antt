@@ -1,8 +1,12 @@
--- What stands in a list: Has at the front, in an append, in a mapped list, and for all elements.
-use mathlib.Core.Path.{_≡_, refl, sym, ap, _∙_, subst}
+-- What stands in a list.
+--     has-none, has-here, has-there, has-either      in no list, at the front, behind it, and which of the two
+--     has-left, has-right, has-part                  in an append, from a part and back
+--     at-read, has-read, at-is                       what is read at a number
+--     has-map, map-has                               in a list whose elements are changed
+use mathlib.Core.Path.{_≡_, refl, sym, _∙_, subst}
 use mathlib.Core.List.{List, [], _∷_, _++_, map}
 use mathlib.Core.Logic.{_⊎_, inl, inr}
-use Prim.Native.Nat.{ℕ, zero, suc, _+_, _<_}
+use Prim.Native.Nat.{ℕ, zero, suc, _<_}
 use native.Mathlib.Omega.{arith}
 use lib.ListN.{length, getD}
 use Rattle.std.proofs.shelf.Lists.{getD-default}

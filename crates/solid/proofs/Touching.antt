@@ -1,9 +1,13 @@
--- Places on planes: on some plane of a list, below all of them, and clear of a shape's planes.
+-- Places on and below the planes of a list.
+--     off-each, off-all, on-one, one-on              on-some as said of each plane or of one
+--     on-some-append                                 on some plane of an append
+--     below-each, below-all                          all-below as said of each plane
+--     clear-off, off-clear                           Clear as real and on-some
 use mathlib.Core.Path.{_≡_, refl, sym, ap, subst, _∙_}
-use mathlib.Core.Bool.{Bool, true, false, _&&_, _||_}
+use mathlib.Core.Bool.{Bool, true, false, _||_}
 use mathlib.Core.List.{List, [], _∷_, _++_}
-use mathlib.Core.Logic.{_⊎_, inl, inr}
-use Prim.Native.Nat.{ℕ, _<_}
+use mathlib.Core.Logic.{inl, inr}
+use Prim.Native.Nat.{_<_}
 use Rattle.std.proofs.shelf.Tests.{false≢true, or-cases, or-parts, or-from, or-left, or-right, and-parts, and-from}
 use Rattle.plane.specs.declared.types.Plane.{Plane}
 use Rattle.plane.specs.declared.types.Place.{Place}

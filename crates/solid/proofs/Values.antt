@@ -1,8 +1,11 @@
--- A shape's value: it depends on what is said of the shape's planes alone, and changes with them.
-use mathlib.Core.Path.{_≡_, refl, sym, ap, ap₂, _∙_}
+-- A shape's value, its planes and its words.
+--     by-same                                        the value depends on what is said of the shape's planes alone
+--     by-with, planes-with                           the value and the planes of a shape with changed planes
+--     words-length, words-few, planes-some           how many words and planes there are
+use mathlib.Core.Path.{_≡_, refl, sym, ap₂, _∙_}
 use mathlib.Core.Bool.{Bool, _&&_, _||_, not}
 use mathlib.Core.List.{List, [], _∷_, _++_, map}
-use Prim.Native.Nat.{ℕ, suc, _+_, _*_, _≤_, _<_}
+use Prim.Native.Nat.{ℕ, _+_, _*_, _<_}
 use native.Mathlib.Omega.{arith}
 use lib.ListN.{length, length-append}
 use Rattle.std.proofs.shelf.Lists.{map-append}

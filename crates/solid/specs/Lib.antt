@@ -2,4 +2,5 @@ pub mod Shapes
 pub mod Models
 pub mod Laws
 pub mod Steps
+pub mod Stacks
 pub mod Examples

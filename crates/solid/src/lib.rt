@@ -3,3 +3,4 @@
 pub mod laws;
 pub mod steps;
 pub mod types;
+pub mod value;

@@ -5,14 +5,16 @@ ghost use Prim.Native.Nat.{_+_, _*_, _≤_, _<_};
 ghost use Rattle.arith.specs.Bounds.{Short};
 ghost use Rattle.plane.specs.Limits.{slope-limit, offset-limit, Fits-plane};
 ghost use Rattle.solid.specs.Steps.{span, raised, lowered, plane-number, numbered-plane, word, step, Fits-step};
+use super::types::OFFSET_LIMIT;
+use super::types::SLOPE_LIMIT;
 use super::types::Step;
 use plane::types::Plane;
 
-/// The largest slope and the largest offset of a plane, and how many of each there are.
-const SLOPE: u64 = 6;
-const OFFSET: u64 = 294_912;
-const SLOPES: u64 = 2 * SLOPE + 1;
-const OFFSETS: u64 = 2 * OFFSET + 1;
+/// How many slopes there are.
+const SLOPES: u64 = 2 * SLOPE_LIMIT + 1;
+
+/// How many offsets there are.
+const OFFSETS: u64 = 2 * OFFSET_LIMIT + 1;
 
 /// A number from -n to n, counted from 0.
 fn raise(n: u64, z: i64) -> u64
@@ -40,10 +42,10 @@ fn plane_of(n: u64) -> Plane
     let rest = n / SLOPES;
     let last = rest / SLOPES;
     Plane {
-        a: lower(SLOPE, n % SLOPES),
-        b: lower(SLOPE, rest % SLOPES),
-        c: lower(SLOPE, last % SLOPES),
-        d: lower(OFFSET, last / SLOPES % OFFSETS),
+        a: lower(SLOPE_LIMIT, n % SLOPES),
+        b: lower(SLOPE_LIMIT, rest % SLOPES),
+        c: lower(SLOPE_LIMIT, last % SLOPES),
+        d: lower(OFFSET_LIMIT, last / SLOPES % OFFSETS),
     }
 }
 
@@ -53,10 +55,10 @@ fn number_of(p: Plane) -> u64
     ensures value { λ r. ⌜ r ≡ plane-number p ⌝ }
     ensures small { λ r. ⌜ r < span slope-limit * (span slope-limit * (span slope-limit * span offset-limit)) ⌝ }
 {
-    let a = raise(SLOPE, p.a);
-    let b = raise(SLOPE, p.b);
-    let c = raise(SLOPE, p.c);
-    let d = raise(OFFSET, p.d);
+    let a = raise(SLOPE_LIMIT, p.a);
+    let b = raise(SLOPE_LIMIT, p.b);
+    let c = raise(SLOPE_LIMIT, p.c);
+    let d = raise(OFFSET_LIMIT, p.d);
     a + SLOPES * (b + SLOPES * (c + SLOPES * d))
 }
 

@@ -1,6 +1,5 @@
 use Rattle.std.proofs.shelf.Signed.{toZ-ofZ}
 use mir.Syntax.{w64}
-use mir.Val.{SFits}
 use Rattle.solid.specs.Steps.{numbered-plane}
 use Rattle.solid.proofs.steps.plane_of.Needs as need
 
