@@ -1,4 +1,7 @@
 -- The pass over the lines that lays them into words.
+--     starts, part-laid, place-laid, ends      before the first line, after a part's, after a place's, and behind the last
+--     part-room, part-there, place-room        the tokens that there are for the next line
+--     tail-length, tail-inside, front-inside   parts of lists of tokens
 use mathlib.Core.Path.{_≡_, refl, sym, _∙_, ap, subst}
 use mathlib.Core.List.{List, [], _∷_, _++_, append-assoc, append-nil}
 use mathlib.Core.Bool.{true, false}

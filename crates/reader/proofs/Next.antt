@@ -1,4 +1,6 @@
--- Lines that are taken: what holds of them, and which comes next.
+-- Lines that are taken.
+--     part-sound, place-sound           what holds of a part's line, and of a place's
+--     next, next-part, next-place       which of the two comes next
 use mathlib.Core.Path.{_≡_, refl, subst}
 use mathlib.Core.List.{List, [], _∷_, _++_}
 use mathlib.Core.Bool.{true, false, not, _&&_}

@@ -1,4 +1,7 @@
 -- Two words for each name.
+--     pair-read, pair-whole, pair-written      two words read, all there are, and written
+--     written                                  some words written behind others
+--     pair-none, pair-some                     the pair of a name, by its rank
 use mathlib.Core.Path.{_≡_, refl, sym, _∙_, ap, subst}
 use mathlib.Core.List.{List, [], _∷_, _++_, append-assoc}
 use mathlib.Core.Bool.{Bool, true, false, cond}

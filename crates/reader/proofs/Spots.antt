@@ -1,4 +1,6 @@
 -- Where the steps of each part lie, and how a part is found by its name.
+--     steps-push, spots-push      the steps and the spots with one more part
+--     pair-front, spot-pair       a part's spot is the pair of its name
 use mathlib.Core.Path.{_≡_, refl, sym, _∙_, ap}
 use mathlib.Core.List.{List, [], _∷_, _++_, map, append-assoc, append-nil}
 use mathlib.Core.Bool.{cond}
