@@ -24,14 +24,16 @@ use plane::types::Plane;
 use solid::steps::word_of;
 use solid::types::Step;
 
-/// How many words and numbers the line of a part has, and that of a place.
+/// How many words and numbers the line of a part has.
 const PART_TOKENS: usize = 9;
 
+/// How many words and numbers the line of a place has.
 const PLACE_TOKENS: usize = 6;
 
-/// How many steps a box has, and how many words a question.
+/// How many steps a box has.
 const BOX_STEPS: usize = 11;
 
+/// How many words a question has.
 const QUESTION_WORDS: usize = 6;
 
 /// The word of a half-space.
