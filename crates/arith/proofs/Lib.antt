@@ -3,3 +3,4 @@ pub mod Order
 pub mod Poly
 pub mod Solve
 pub mod Sized
+pub mod Steps

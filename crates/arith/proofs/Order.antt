@@ -4,7 +4,7 @@ use Prim.Native.Nat.{ℕ, zero, suc, _*_, _<_}
 use native.Mathlib.Nat.{mul-pos}
 use native.Mathlib.Omega.{arith}
 use lib.IntN.{ℤ, pos, negsuc, negℤ, _+ℤ_, _-ℤ_, _*ℤ_, *ℤ-comm, *ℤ-zero, zero-*ℤ}
-use lib.Signed.{_≤ℤ_, _<ℤ_}
+use lib.Signed.{_≤ℤ_, _<ℤ_, <ℤ-irrefl}
 use Rattle.std.proofs.shelf.Signed.{ints, by-ltZ}
 use Rattle.arith.proofs.Ring.{distr, distl, neg-*l, neg-*r}
 
@@ -98,6 +98,33 @@ cancel-le c a b h k = by-ltZ b a (λ p. absurd (let m = mul-lt b a c p h in omeg
 pub square-nonneg : (a : ℤ) → pos 0 ≤ℤ (a *ℤ a)
 square-nonneg (pos a) = omega (arith, ints)
 square-nonneg (negsuc a) = omega (arith, ints)
+
+pub square-zero : (a : ℤ) → a *ℤ a ≡ pos 0 → a ≡ pos 0
+square-zero a e = elim (tri a (pos 0)) [
+  | below h ↦ absurd (<ℤ-irrefl (subst (λ x. pos 0 <ℤ x) e (mul-neg-neg a a h h)))
+  | same h ↦ h
+  | above h ↦ absurd (<ℤ-irrefl (subst (λ x. pos 0 <ℤ x) e (mul-positive a a h h)))
+]
+
+sum-zero : (x y z : ℤ) → pos 0 ≤ℤ x → pos 0 ≤ℤ y → pos 0 ≤ℤ z → (x +ℤ y) +ℤ z ≡ pos 0 → (x ≡ pos 0) × (y ≡ pos 0) × (z ≡ pos 0)
+sum-zero x y z h k l e = (omega (arith, ints), omega (arith, ints), omega (arith, ints))
+
+sum-nonneg : (x y z : ℤ) → pos 0 ≤ℤ x → pos 0 ≤ℤ y → pos 0 ≤ℤ z → pos 0 ≤ℤ ((x +ℤ y) +ℤ z)
+sum-nonneg x y z h k l = omega (arith, ints)
+
+positive : (x : ℤ) → pos 0 ≤ℤ x → (x ≡ pos 0 → ⊥) → pos 0 <ℤ x
+positive x h n = by-ltZ (pos 0) x (λ p. p) (λ (p : x ≤ℤ pos 0). absurd (n (omega (arith, ints))))
+
+-- the square of a length: 0 only if all three are
+pub squares-zero : (a b c : ℤ) → (a *ℤ a +ℤ b *ℤ b) +ℤ c *ℤ c ≡ pos 0 → (a ≡ pos 0) × (b ≡ pos 0) × (c ≡ pos 0)
+squares-zero a b c e =
+    let z = sum-zero (a *ℤ a) (b *ℤ b) (c *ℤ c) (square-nonneg a) (square-nonneg b) (square-nonneg c) e in
+    (square-zero a (z .0), square-zero b (z .1), square-zero c (z .2))
+
+pub squares-positive : (a b c : ℤ) → ((a ≡ pos 0) × (b ≡ pos 0) × (c ≡ pos 0) → ⊥) → pos 0 <ℤ ((a *ℤ a +ℤ b *ℤ b) +ℤ c *ℤ c)
+squares-positive a b c n =
+    positive ((a *ℤ a +ℤ b *ℤ b) +ℤ c *ℤ c) (sum-nonneg (a *ℤ a) (b *ℤ b) (c *ℤ c) (square-nonneg a) (square-nonneg b) (square-nonneg c))
+    (λ e. n (squares-zero a b c e))
 
 -- ---- signs
 pub data Sign : Type 0 where

@@ -6,7 +6,7 @@ use Prim.Native.Nat.{ℕ, _+_, _*_, _≤_, _<_, _^_}
 use native.Mathlib.Omega.{arith}
 use native.Mathlib.Nat.{mul-le-mul}
 use borrow.Author.Differences.{ints, up, down, product-is, abs-is, sum-is}
-use lib.Dec.{T, ltb, ltb→lt}
+use lib.Dec.{T, leb, leb→le, ltb, ltb→lt}
 use lib.IntN.{ℤ, pos, negsuc, negℤ, _+ℤ_, _-ℤ_, _*ℤ_, natAbs}
 use mir.Syntax.{w64}
 use mir.Val.{SFits, toZ, ofZ}
@@ -45,6 +45,17 @@ is-add {t = t} {x = x} {y = y} {m = m} {n = n} i j =
 pub is-sub : {s t x y : ℤ} {m n : ℕ} → Is s x m → Is t y n → Is (s -ℤ t) (x -ℤ y) (m + n)
 is-sub {t = t} {x = x} {y = y} {m = m} {n = n} i j =
     record { same = ap (λ (u : ℤ). u -ℤ t) (i .same) ∙ ap (λ (u : ℤ). x -ℤ u) (j .same); short = record { size = let a : natAbs x ≤ m = i .short .size in let b : natAbs y ≤ n = j .short .size in omega (arith, ints) } }
+
+pub short-neg : {z : ℤ} {n : ℕ} → Short z n → Short (negℤ z) n
+short-neg {z} {n} s = let a : natAbs z ≤ n = s .size in record { size = omega (arith, ints) }
+
+-- a number with its sign turned, as the code makes it
+pub is-neg : {t z : ℤ} {n : ℕ} → Is t z n → Is (pos 0 -ℤ t) (negℤ z) n
+is-neg {t} {z} i = let e : t ≡ z = i .same in record { same = omega (arith, ints); short = short-neg (i .short) }
+
+-- a larger bound
+pub short-more : {z : ℤ} {n : ℕ} (m : ℕ) → Short z n → T (leb n m) → Short z m
+short-more {z} {n} m s t = let a : natAbs z ≤ n = s .size in let b : n ≤ m = leb→le n m t in record { size = omega arith }
 
 pub is-fits : {t z : ℤ} {n : ℕ} → Is t z n → T (ltb n (2 ^ 63)) → SFits w64 t
 is-fits {t} {z} {n} i h = subst (λ (u : ℤ). SFits w64 u) (sym (i .same)) (short-fits (i .short) h)

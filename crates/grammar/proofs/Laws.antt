@@ -11,7 +11,7 @@ use Rattle.grammar.specs.Grammar.{Text, Viable, Refused}
 use Rattle.grammar.specs.Laws.{One-place, Not-both}
 
 -- the start of a start
-shorter : (bs : List ℕ) (n m : ℕ) → n ≤ m → Viable (take m bs) → Viable (take n bs)
+pub shorter : (bs : List ℕ) (n m : ℕ) → n ≤ m → Viable (take m bs) → Viable (take n bs)
 shorter bs n m h v =
     let e : take n (take m bs) ++ drop n (take m bs) ≡ take m bs = take-append-drop n (take m bs) in
     let f : take n bs ++ drop n (take m bs) ≡ take m bs = ap (λ (x : List ℕ). x ++ drop n (take m bs)) (sym (take-take n m bs h)) ∙ e in

@@ -4,3 +4,8 @@ pub mod Whole
 pub mod Once
 pub mod Laws
 pub mod Tokens
+pub mod Spacing
+pub mod First
+pub mod Values
+pub mod Fine
+pub mod Told

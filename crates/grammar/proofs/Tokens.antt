@@ -115,7 +115,7 @@ map-mark : (t : Bool) (i : ℕ) (xs : List ℕ) (ps : List ℕ) → map (λ p. t
 map-mark true i xs ps = refl
 map-mark false i xs ps = refl
 
-drop-next : (xs : List ℕ) (i b : ℕ) (ys : List ℕ) → drop i xs ≡ b ∷ ys → drop (suc i) xs ≡ ys
+pub drop-next : (xs : List ℕ) (i b : ℕ) (ys : List ℕ) → drop i xs ≡ b ∷ ys → drop (suc i) xs ≡ ys
 drop-next [] zero b ys e = let z : _≡_ {A = ℕ} 0 1 = cc in absurd (omega arith)
 drop-next [] (suc i) b ys e = let z : _≡_ {A = ℕ} 0 1 = cc in absurd (omega arith)
 drop-next (x ∷ xs) zero b ys e = cc

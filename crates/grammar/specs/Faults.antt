@@ -78,22 +78,26 @@ abbrev pub if-so : Bool → ℕ → Token → List Fault
 if-so true n t = fault n (t .start) ∷ []
 if-so false n t = []
 
--- the faults of words, each as it stands: `read` bytes have been read, `names` are those of the parts so far, and then what is expected.
+-- the faults of words, each as it stands, behind parts of some names, and then what is expected.
 -- What stands behind a word that is not taken yet is not looked at.
-abbrev pub scan : ℕ → List (List ℕ) → List Role → List Token → List Fault
-scan read names rs [] = []
-scan read names [] (t ∷ ts) =
-    cond (same (t .word) (codes "part")) (if-so (leb most-parts (length names) && leb (t .start + 5) read) 3 t ++ scan read names of-part ts)
-    (cond (same (t .word) (codes "place")) (scan read names of-place ts) (if-so (oneOf later (t .word)) 1 t))
-scan read names (new-name ∷ rs) (t ∷ ts) = if-so (isName (t .word) && oneOf names (t .word)) 2 t ++ scan read (names ++ t .word ∷ []) rs ts
-scan read names (used-name ∷ rs) (t ∷ ts) = if-so (isName (t .word) && not (oneOf names (t .word))) 2 t ++ scan read names rs ts
-scan read names (shape ∷ rs) (t ∷ ts) = cond (same (t .word) (codes "box")) (scan read names (of-box ++ rs) ts) (if-so true 1 t)
-scan read names (measure ∷ rs) (t ∷ ts) = if-so (beyond (t .word)) 4 t ++ scan read names rs ts
-scan read names (scale ∷ rs) (t ∷ ts) = if-so (no-scale (t .word)) 4 t ++ scan read names rs ts
+abbrev pub scan : List (List ℕ) → List Role → List Token → List Fault
+scan names rs [] = []
+scan names [] (t ∷ ts) =
+    cond (same (t .word) (codes "part")) (if-so (leb most-parts (length names)) 3 t ++ scan names of-part ts)
+    (cond (same (t .word) (codes "place")) (scan names of-place ts) (if-so (oneOf later (t .word)) 1 t))
+scan names (new-name ∷ rs) (t ∷ ts) = if-so (isName (t .word) && oneOf names (t .word)) 2 t ++ scan (names ++ t .word ∷ []) rs ts
+scan names (used-name ∷ rs) (t ∷ ts) = if-so (isName (t .word) && not (oneOf names (t .word))) 2 t ++ scan names rs ts
+scan names (shape ∷ rs) (t ∷ ts) = cond (same (t .word) (codes "box")) (scan names (of-box ++ rs) ts) (if-so true 1 t)
+scan names (measure ∷ rs) (t ∷ ts) = if-so (beyond (t .word)) 4 t ++ scan names rs ts
+scan names (scale ∷ rs) (t ∷ ts) = if-so (no-scale (t .word)) 4 t ++ scan names rs ts
 
--- the faults in the words of bytes of which so many count as read: a word that ends behind them is not looked at
+-- the words of bytes of which so many count as read: a word that ends behind them is not looked at
+abbrev pub looked : ℕ → List ℕ → List Token
+looked read bs = kept-by (λ t. leb (t .start + length (t .word)) read) (tokens bs)
+
+-- the faults in them
 abbrev pub word-faults : ℕ → List ℕ → List Fault
-word-faults read bs = scan read [] [] (kept-by (λ t. leb (t .start + length (t .word)) read) (tokens bs))
+word-faults read bs = scan [] [] (looked read bs)
 
 -- how many bytes of a text are read
 abbrev pub most-bytes : ℕ
@@ -110,10 +114,10 @@ abbrev pub seen : List ℕ → ℕ → ℕ
 seen bs p = cond (ltb most-bytes (length bs) && eqb p most-bytes) (p - 1) p
 
 -- the faults of bytes; `p` is how far they begin a text
-pub data Faulty (bs : List ℕ) : Fault → Type 0 where
-  stuck : (p : ℕ) → Refused (take most-bytes bs) p → (length bs ≤ most-bytes) ⊎ (p < most-bytes) → Faulty bs (fault 1 p)
-  long : most-bytes < length bs → Faulty bs (fault 3 most-bytes)
-  wrong : (p : ℕ) (f : Fault) → Reaches (take most-bytes bs) p → Has (word-faults (seen bs p) (take p bs)) f → Faulty bs f
+pub data Faulty (bs : List ℕ) (f : Fault) : Type 0 where
+  stuck : (p : ℕ) → f ≡ fault 1 p → Refused (take most-bytes bs) p → (length bs ≤ most-bytes) ⊎ (p < most-bytes) → Faulty bs f
+  long : f ≡ fault 3 most-bytes → most-bytes < length bs → Faulty bs f
+  wrong : (p : ℕ) → Reaches (take most-bytes bs) p → Has (word-faults (seen bs p) (take p bs)) f → Faulty bs f
 
 -- one fault is told rather than another
 abbrev pub Before : Fault → Fault → Type 0

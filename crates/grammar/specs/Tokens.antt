@@ -4,8 +4,6 @@ use mathlib.Core.List.{List, [], _∷_, _++_, map}
 use mathlib.Core.Bool.{Bool, true, false, cond, not, _&&_, _||_}
 use Prim.Native.Nat.{ℕ, suc, _≤_, _<_}
 use lib.ListN.{length, take, drop}
-use Rattle.std.specs.declared.option.Option.{Option}
-use Rattle.std.specs.declared.option.Option.the-variants.{Some, None}
 use lib.Dec.{eqb}
 use lib.Chars.{codes}
 use Rattle.grammar.specs.Grammar.{alnum, Expr, half, box, two, move, one, called, Line, part, place, same-as, meet, model, twoWord, oneWord, signed}
@@ -54,7 +52,3 @@ codeOf (l ∷ ls) = codeL l (codeOf ls)
 -- p is where a token of the bytes begins, for each p, and no token is left out
 abbrev pub Placed : List ℕ → List ℕ → Type 0
 Placed bs ps = map (λ p. tokAt (drop p bs)) ps ≡ toksFrom false bs
-
-abbrev pub Starts : Option ℕ → List ℕ → List ℕ → Type 0
-Starts (Some k) bs st = (k ≤ length st) × Placed bs (take k st)
-Starts None bs st = length st < length bs

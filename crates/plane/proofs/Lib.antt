@@ -1,1 +1,10 @@
+pub mod Formulas
 pub mod Heights
+pub mod Invariance
+pub mod Ranges
+pub mod Weights
+pub mod Places
+pub mod Coincidence
+pub mod Cramer
+pub mod Determinants
+pub mod Meeting

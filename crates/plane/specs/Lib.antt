@@ -2,3 +2,5 @@ pub mod Limits
 pub mod Planes
 pub mod Meets
 pub mod Moves
+pub mod Cramer
+pub mod Ratios

@@ -1,7 +1,9 @@
 -- The largest numbers. All other bounds are computed from these.
 use mathlib.Core.Path.{_≡_}
-use Prim.Native.Nat.{ℕ, _+_, _-_, _*_, _^_, _≤_, _<_}
-use lib.IntN.{ℤ, pos}
+use Prim.Native.Nat.{ℕ, _-_, _*_, _^_, _≤_, _<_}
+use lib.IntN.{pos}
+use Rattle.std.specs.Options.{Cases}
+use Rattle.std.specs.declared.option.Option.{Option}
 use Rattle.arith.specs.Bounds.{Short}
 use Rattle.plane.specs.declared.types.Plane.{Plane}
 use Rattle.plane.specs.declared.types.Place.{Place}
@@ -26,13 +28,25 @@ coordinate-limit = 2 ^ 56 - 1
 abbrev pub scale-limit : ℕ
 scale-limit = 2 ^ 42 - 1
 
--- a plane in range: its slopes are not all 0
+-- the slopes are not all 0
+abbrev pub Sloped : Plane → Type 0
+Sloped p = (p .a ≡ pos 0) × (p .b ≡ pos 0) × (p .c ≡ pos 0) → ⊥
+
+-- the slopes are in range
+abbrev pub Gentle : Plane → Type 0
+Gentle p = Short (p .a) slope-limit × Short (p .b) slope-limit × Short (p .c) slope-limit
+
+-- a plane in range
 pub record Fits-plane (p : Plane) : Type 0 where
   pub a : Short (p .a) slope-limit
   pub b : Short (p .b) slope-limit
   pub c : Short (p .c) slope-limit
   pub d : Short (p .d) offset-limit
-  pub sloped : (p .a ≡ pos 0) × (p .b ≡ pos 0) × (p .c ≡ pos 0) → ⊥
+  pub sloped : Sloped p
+
+-- the plane if it is in range, and nothing if it isn't
+abbrev pub If-fits : Plane → Option Plane → Type 0
+If-fits p r = Cases r (Fits-plane p → ⊥) (λ q. (q ≡ p) × Fits-plane q)
 
 -- a place in range
 pub record Small-place (q : Place) : Type 0 where
@@ -55,3 +69,11 @@ determinant-limit = 6 * slope-limit ^ 3
 -- the same with a column of offsets in the place of one of slopes
 abbrev pub corner-limit : ℕ
 corner-limit = 6 * (offset-limit * slope-limit ^ 2)
+
+-- how far two rows of slopes go together: three products of two
+abbrev pub along-limit : ℕ
+along-limit = 3 * slope-limit ^ 2
+
+-- slopes times coordinates: three products of two
+abbrev pub weight-limit : ℕ
+weight-limit = 3 * (slope-limit * coordinate-limit)

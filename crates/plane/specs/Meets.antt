@@ -1,8 +1,10 @@
 -- Where three planes meet.
 use mathlib.Core.Path.{_≡_}
 use mathlib.Core.Bool.{true}
-use Prim.Native.Nat.{ℕ, zero, suc, _<_, _≤_}
-use lib.IntN.{ℤ, pos, negsuc, negℤ, _+ℤ_, _-ℤ_, _*ℤ_}
+use Prim.Native.Nat.{_<_, _≤_}
+use lib.IntN.{ℤ, pos, _+ℤ_, _-ℤ_, _*ℤ_}
+use Rattle.std.specs.Options.{Cases}
+use Rattle.std.specs.declared.option.Option.{Option}
 use Rattle.arith.specs.Bounds.{Short}
 use Rattle.plane.specs.declared.types.Plane.{Plane}
 use Rattle.plane.specs.declared.types.Place.{Place}
@@ -27,3 +29,7 @@ pub record Meet (p q r : Plane) (s : Place) : Type 0 where
   pub x-small : Short (s .x) corner-limit
   pub y-small : Short (s .y) corner-limit
   pub z-small : Short (s .z) corner-limit
+
+-- what is said of three planes: that their directions lie in one plane, or where they meet
+abbrev pub Met : Plane → Plane → Plane → Option Place → Type 0
+Met p q r o = Cases o (determinant p q r ≡ pos 0) (λ s. Meet p q r s × (determinant p q r ≡ pos 0 → ⊥))

@@ -1,7 +1,6 @@
 -- Planes and places moved, mirrored at x = 0, with x and y exchanged, and turned from x to y to z to x.
 use mathlib.Core.Path.{_≡_}
-use Prim.Native.Nat.{ℕ}
-use lib.IntN.{ℤ, pos, negℤ, _+ℤ_, _*ℤ_}
+use lib.IntN.{pos, negℤ, _+ℤ_, _*ℤ_}
 use Rattle.plane.specs.declared.types.Plane.{Plane}
 use Rattle.plane.specs.declared.types.Place.{Place}
 use Rattle.plane.specs.declared.types.Shift.{Shift}

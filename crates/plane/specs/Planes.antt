@@ -6,12 +6,20 @@ use lib.IntN.{ℤ, pos, negℤ, _+ℤ_, _-ℤ_, _*ℤ_}
 use lib.Signed.{ltZ, leZ}
 use Rattle.plane.specs.declared.types.Plane.{Plane}
 use Rattle.plane.specs.declared.types.Place.{Place}
+use Rattle.std.specs.declared.option.Option.{Option}
+use Rattle.std.specs.declared.option.Option.the-variants.{Some, None}
+use Rattle.plane.specs.declared.types.Facing.{Facing}
+use Rattle.plane.specs.declared.types.Facing.the-variants.{Alike, Opposite}
 use Rattle.plane.specs.declared.types.Side.{Side}
 use Rattle.plane.specs.declared.types.Side.the-variants.{Below, On, Above}
 
 -- two integers are the same
 unfoldable pub sameZ : ℤ → ℤ → Bool
 sameZ a b = leZ a b && leZ b a
+
+-- a x + b y + c z
+abbrev pub weight : Plane → ℤ → ℤ → ℤ → ℤ
+weight p x y z = ((p .a *ℤ x) +ℤ (p .b *ℤ y)) +ℤ (p .c *ℤ z)
 
 -- how far a place is above a plane, in units of the place's w and the plane's slopes
 unfoldable pub height : Plane → Place → ℤ
@@ -63,3 +71,9 @@ pub record Apart (p r : Plane) : Type 0 where
   pub real : 0 < place .w
   pub on-one : on p place ≡ true
   pub off-other : on r place ≡ false
+
+-- what is said of two planes: that some place tells them apart, or which way each looks
+abbrev pub Coincide : Plane → Plane → Option Facing → Type 0
+Coincide p r None = Apart p r
+Coincide p r (Some Alike) = One-alike p r
+Coincide p r (Some Opposite) = One-opposite p r

@@ -1,4 +1,13 @@
-//! Planes and places, by value.
+//! Planes and places, by value, and the largest numbers of a plane.
+
+/// The largest a, b or c of a plane.
+pub const SLOPE_LIMIT: u64 = 6;
+
+/// Where the workshop ends, in all six directions.
+pub const REACH: u64 = 16384;
+
+/// The largest d of a plane: each plane that has a place in the workshop is in range.
+pub const OFFSET_LIMIT: u64 = 3 * SLOPE_LIMIT * REACH;
 
 /// A plane: a place is below it if a x + b y + c z is less than d w.
 #[derive(Clone, Copy)]

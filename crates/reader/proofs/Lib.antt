@@ -2,9 +2,13 @@ pub mod Words
 pub mod Stacks
 pub mod Grow
 pub mod Turn
-pub mod Values
 pub mod Spans
 pub mod Ranks
+pub mod Letters
+pub mod Scans
+pub mod Checks
+pub mod Naming
+pub mod Examining
 pub mod Numbers
 pub mod Pairs
 pub mod Spots

@@ -2,7 +2,7 @@
 
 ghost use mathlib.Core.Path.{_≡_};
 ghost use mathlib.Core.List.{List, [], _∷_};
-ghost use Prim.Native.Nat.{ℕ, _+_, _-_, _<_, _≤_};
+ghost use Prim.Native.Nat.{ℕ, _+_, _-_, _*_, _<_, _≤_};
 ghost use lib.ListN.{length};
 ghost use Rattle.grammar.specs.Machine.{Good, step, behind};
 ghost use Rattle.reader.specs.Reading.{Says};
@@ -225,16 +225,14 @@ pub(crate) fn advance(stack: &mut [u64], depth: usize, word: &[u8], b: u8) -> We
     }
 }
 
-/// Reads a text.
-pub fn read_text(text: &[u8], stack: &mut [u64]) -> Verdict
-    ensures { λ r. ⌜ Says r (now (text .entry)) (length (now (stack .entry))) ⌝ }
+/// Whether the bytes are a text, and if not, the first byte at which no text goes on so.
+pub(crate) fn read_text(text: &[u8], stack: &mut [u64]) -> Verdict
+    requires { ⌜ 2 * length (now text) + 15 ≤ length (now stack) ⌝ }
+    ensures { λ r. ⌜ Says r (now (text .entry)) ⌝ }
 {
     let mut depth = 0;
     let mut start = 0;
     for i in 0..text.len() {
-        if stack.len() - depth < 8 {
-            return Verdict::Room;
-        }
         match advance(stack, depth, &text[start..i], text[i]) {
             Went::Stuck => return Verdict::Bad(i),
             Went::On(d) => {

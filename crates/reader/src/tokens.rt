@@ -1,11 +1,12 @@
 //! The words and numbers of a text.
 
 ghost use mathlib.Core.Path.{_≡_};
+ghost use mathlib.Core.Bool.{false};
 ghost use Prim.Native.Nat.{_<_, _≤_};
 ghost use lib.IntN.{ℤ, pos, negℤ};
-ghost use lib.ListN.{length, drop};
+ghost use lib.ListN.{length, take, drop};
 ghost use Rattle.grammar.specs.Grammar.{signed, digit};
-ghost use Rattle.grammar.specs.Tokens.{inTok, Starts, tokAt};
+ghost use Rattle.grammar.specs.Tokens.{inTok, startsFrom, tokAt};
 ghost use Rattle.grammar.specs.Values.{readOn, Told, Value};
 ghost use Rattle.std.specs.Holes.{between};
 ghost use lib.ListN.{getD};
@@ -19,24 +20,23 @@ pub(crate) fn in_token(b: u8) -> bool
     is_alnum(b) || b == b'-'
 }
 
-/// Where each word and number of the text begins, in their order; nothing if the steps do not suffice.
-pub fn token_starts(text: &[u8], steps: &mut [u64]) -> Option<usize>
-    ensures { λ r. ⌜ Starts r (now (text .entry)) (now (steps .exit)) ⌝ }
+/// Writes where each word and number of the text begins, in their order; hands back how many there are.
+pub(crate) fn token_starts(text: &[u8], tokens: &mut [u64]) -> usize
+    requires { ⌜ length (now text) ≤ length (now tokens) ⌝ }
+    ensures most { λ r. ⌜ r ≤ length (now (text .entry)) ⌝ }
+    ensures are { λ r. ⌜ take r (now (tokens .exit)) ≡ startsFrom false 0 (now (text .entry)) ⌝ }
 {
     let mut inside = false;
     let mut count = 0;
     for i in 0..text.len() {
         let token = in_token(text[i]);
         if token && !inside {
-            if count == steps.len() {
-                return None;
-            }
-            steps[count] = i as u64;
+            tokens[count] = i as u64;
             count += 1;
         }
         inside = token;
     }
-    Some(count)
+    count
 }
 
 pub(crate) fn is_digit(b: u8) -> bool

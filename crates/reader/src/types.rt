@@ -23,12 +23,11 @@ pub enum Went {
     Word,
 }
 
-/// What the reader says: it is a text, it goes wrong at this byte, or the stack is too short.
-#[derive(Clone, Copy, PartialEq, Debug)]
+/// What the grammar says of bytes: they are a text, or none goes on so at this byte.
+#[derive(Clone, Copy)]
 pub enum Verdict {
     Whole,
     Bad(usize),
-    Room,
 }
 
 /// What a text that is taken has: how many steps its parts have in all, and how many questions it asks.
@@ -36,4 +35,50 @@ pub enum Verdict {
 pub struct Counts {
     pub used: usize,
     pub asked: usize,
+}
+
+/// Why a text is refused, and at which byte.
+#[derive(Clone, Copy, PartialEq, Debug)]
+pub enum Refusal {
+    /// No text goes on so, or a word that is not taken yet.
+    Grammar(usize),
+    /// A name that is twice, or isn't there yet.
+    Name(usize),
+    /// Too many bytes or parts.
+    Limit(usize),
+    /// A number out of range.
+    Range(usize),
+}
+
+/// What is expected of the next word.
+#[derive(Clone, Copy)]
+pub enum Expect {
+    AtLine,
+    AtNewName,
+    AtShape,
+    InBox(usize),
+    AtUsedName,
+    InPlace(usize),
+}
+
+/// What a word is found to be: wrong, or right, and then what is expected; or nothing behind it is looked at.
+#[derive(Clone, Copy)]
+pub enum Look {
+    Wrong(Refusal),
+    Next(Expect),
+    Done,
+}
+
+/// How far the bytes that are read begin a text, and whether they are one.
+#[derive(Clone, Copy)]
+pub struct Reach {
+    pub at: usize,
+    pub whole: bool,
+}
+
+/// What a text that is taken has: how many words and numbers, and how many parts.
+#[derive(Clone, Copy)]
+pub struct Found {
+    pub words: usize,
+    pub parts: usize,
 }

@@ -8,7 +8,7 @@ use Rattle.plane.specs.Planes.{below, scaled}
 use Rattle.plane.specs.Moves.{Together, moved-plane, moved-place, mirrored-plane, mirrored-place, swapped-plane, swapped-place, rolled-plane, rolled-place}
 use Rattle.solid.specs.Shapes.{holds}
 use Rattle.solid.specs.Laws.{Carried, Moves-right, One-place}
-use Rattle.solid.proofs.Invariance.{moved-together, mirrored-together, swapped-together, rolled-together, scaled-below}
+use Rattle.plane.proofs.Invariance.{moved-together, mirrored-together, swapped-together, rolled-together, scaled-side}
 use Rattle.solid.proofs.Values.{by-same, by-with}
 
 -- if each height stays
@@ -28,4 +28,4 @@ moves-right = record {
 -- a place in other terms
 pub one-place : One-place
 unfolding holds
-one-place s q k l = by-same (λ p. below p (scaled k q)) (λ p. below p q) s (λ p h. scaled-below p k q l)
+one-place s q k l = by-same (λ p. below p (scaled k q)) (λ p. below p q) s (λ p h. scaled-side p k q l .in-below)

@@ -4,7 +4,7 @@ use lib.ListN.{length, drop, getD}
 use native.Mathlib.Omega.{arith}
 use Rattle.std.proofs.shelf.Lists.{at-drop-all}
 use Rattle.grammar.specs.Values.{readOn}
-use Rattle.reader.proofs.Values.{read-more, read-stop, read-ge}
+use Rattle.grammar.proofs.Values.{read-more, read-stop, read-ge}
 use Rattle.reader.proofs.tokens.magnitude.Needs as need
 
 pub returns-then-not-is-digit : need.returns-then-not-is-digit

@@ -7,7 +7,7 @@ use mir.Val.{SFits}
 use Rattle.std.proofs.shelf.Signed.{toZ-ofZ}
 use lib.IntN.{ℤ, pos, negsuc, negℤ}
 use Rattle.grammar.specs.Values.{size}
-use Rattle.reader.proofs.Values.{first-minus, first-plain}
+use Rattle.grammar.proofs.Values.{first-minus, first-plain}
 use Rattle.reader.proofs.tokens.number_at.Needs as need
 
 pub returns-in-Some : need.returns-in-Some

@@ -8,6 +8,6 @@ use Rattle.reader.proofs.tokens.token_starts.Given as given
 
 abbrev pub Inv-loop-i : given.InvT-loop-i
 Inv-loop-i l =
-    (take (l .count) (l .steps) ++ startsFrom (l .inside) (l .i) (drop (l .i) (l .text)) ≡ startsFrom false 0 (l .text))
-    × (l .count ≤ length (l .steps))
+    (take (l .count) (l .tokens) ++ startsFrom (l .inside) (l .i) (drop (l .i) (l .text)) ≡ startsFrom false 0 (l .text))
+    × (l .count ≤ length (l .tokens))
     × (l .count ≤ l .i)
