@@ -1,34 +1,37 @@
 -- The questions of lines that are taken, as they lie in words.
+--     asked-lies, laid-lies        each question lies at its number, in the words of the lines and where they are laid
+--     lies-place, lies-steps       its place and its steps, read from the words
 use mathlib.Core.Path.{_≡_, refl, sym, _∙_, ap, subst}
 use mathlib.Core.List.{List, [], _∷_, _++_, append-assoc, append-nil}
-use mathlib.Core.Bool.{Bool, true, false, cond, not, _&&_, _||_}
-use mathlib.Core.Logic.{_⊎_, inl, inr}
-use Prim.Native.Nat.{ℕ, zero, suc, _+_, _-_, _*_, _≤_, _<_}
+use mathlib.Core.Bool.{Bool, true, false, _||_}
+use mathlib.Core.Logic.{inl, inr}
+use Prim.Native.Nat.{ℕ, zero, suc, _+_, _*_, _≤_, _<_}
 use native.Mathlib.Nat.{add-zero, zero-add}
 use native.Mathlib.Omega.{arith}
 use borrow.Author.Needs.{needs}
-use lib.IntN.{ℤ, pos, negsuc, negℤ, natAbs}
+use lib.IntN.{ℤ, negℤ, natAbs}
 use lib.ListN.{length, take, drop, getD}
 use mir.Syntax.{w64}
-use mir.Val.{ofZ}
+use mir.Val.{toZ, ofZ}
 use Rattle.std.specs.shelf.Lists.{All}
 use Rattle.std.proofs.shelf.Signed.{ints}
 use Rattle.std.proofs.shelf.Lists.{take-at, take-append-le, take-append-drop, getD-take, map-push, drop-at, drop-append-le, drop-drop, length-append, length-drop, getD-append-add}
-use Rattle.std.proofs.shelf.Tests.{and-parts, both-ways, cond-true, cond-false}
+use Rattle.std.proofs.shelf.Tests.{both-ways, cond-true, cond-false}
 use Rattle.arith.specs.Bounds.{Short}
+use Rattle.arith.proofs.Sized.{is-num}
 use Rattle.plane.specs.declared.types.Plane.{Plane}
-use Rattle.plane.specs.declared.types.Place.{Place}
-use Rattle.plane.specs.Limits.{Fits-plane, Small-place}
-use Rattle.solid.specs.Shapes.{Shape, Fits, Has, plane, planes, box as box-of}
+use Rattle.plane.specs.Limits.{coordinate-limit, Fits-plane, Small-place}
+use Rattle.solid.specs.Shapes.{Shape, Fits, Has, planes, box as box-of}
 use Rattle.solid.specs.Steps.{words}
 use Rattle.solid.proofs.Members.{has-none, has-either}
-use Rattle.grammar.specs.Values.{number-limit, scale-most}
+use Rattle.grammar.specs.Values.{number-limit}
 use Rattle.grammar.specs.Grammar.{Expr, half, box, two, move, one, called, Line, part, place, same-as, meet, model, same, oneOf}
 use Rattle.grammar.specs.Meaning.{Part, says, named, Question, where-is, at, questions, fine-shape, fine}
 use Rattle.reader.specs.Asked.{Lies}
 use Rattle.reader.specs.declared.types.Counts.{Counts}
 use Rattle.reader.specs.Layout.{Laid, with-part, part-steps, spot, asked-words}
-use Rattle.reader.proofs.Laying.{names-of, steps-of, steps-push, part-sound, place-sound}
+use Rattle.reader.proofs.Spots.{names-of, steps-of, steps-push}
+use Rattle.reader.proofs.Next.{part-sound, place-sound}
 use Rattle.reader.proofs.Numbers.{Numbers, box-numbers, Coordinates, place-numbers}
 
 -- a box in range
@@ -227,3 +230,21 @@ laid-lies ls n steps asked t h k l d =
     (moved (part-steps [] ls) (drop (n .used) steps) (asked-words [] ls) asked k k q (omega (arith, t .asked-fits))
     (λ i b. sym (getD-take m asked (6 * k + i) 0 (omega arith)) ∙ ap (λ (ws : List ℕ). getD ws (6 * k + i) 0) (t .asked-are))
     (asked-lies ls h k (omega (arith, t .count)) d))
+
+-- a coordinate, back from its word
+back : (v : ℕ) (x : ℤ) → v ≡ ofZ w64 x → Short x coordinate-limit → toZ w64 v ≡ x
+back v x e s = ap (toZ w64) e ∙ is-num s tt .same
+
+module _ (steps asked : List ℕ) (k : ℕ) (q : Question) (l : Lies steps asked k q) where
+  pub lies-place :
+      record { x = toZ w64 (getD asked (6 * k + 2) 0); y = toZ w64 (getD asked (6 * k + 3) 0); z = toZ w64 (getD asked (6 * k + 4) 0); w = getD asked (6 * k + 5) 0 }
+      ≡ l .place
+  lies-place =
+      let x = back _ (l .place .x) (l .x-is) (l .small .x) in
+      let y = back _ (l .place .y) (l .y-is) (l .small .y) in
+      let z = back _ (l .place .z) (l .z-is) (l .small .z) in
+      let w = l .w-is in
+      λ i. record { x = x i; y = y i; z = z i; w = w i }
+
+  pub lies-steps : take (getD asked (6 * k + 1) 0) (drop (getD asked (6 * k) 0) steps) ≡ words (l .shape)
+  lies-steps = ap (λ (n : ℕ). take n (drop (getD asked (6 * k) 0) steps)) (l .count-is) ∙ ap (λ (n : ℕ). take (l .count) (drop n steps)) (l .from-is) ∙ l .steps-are

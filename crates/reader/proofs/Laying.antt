@@ -1,42 +1,31 @@
 -- The pass over the lines that lays them into words.
+--     starts, part-laid, place-laid, ends      before the first line, after a part's, after a place's, and behind the last
+--     part-room, part-there, place-room        the tokens that there are for the next line
+--     tail-length, tail-inside, front-inside   parts of lists of tokens
 use mathlib.Core.Path.{_≡_, refl, sym, _∙_, ap, subst}
-use mathlib.Core.List.{List, [], _∷_, _++_, map, append-assoc, append-nil}
-use mathlib.Core.Bool.{Bool, true, false, cond, not, _&&_}
-use Prim.Native.Nat.{ℕ, suc, _+_, _-_, _*_, _≤_, _<_}
-use native.Mathlib.Nat.{add-assoc, zero-add}
+use mathlib.Core.List.{List, [], _∷_, _++_, append-assoc, append-nil}
+use mathlib.Core.Bool.{true, false}
+use Prim.Native.Nat.{ℕ, _+_, _-_, _*_, _≤_, _<_}
+use native.Mathlib.Nat.{zero-add}
 use native.Mathlib.Omega.{arith}
 use lib.Chars.{codes}
-use lib.Dec.{ltb}
 use lib.IntN.{ℤ, natAbs}
 use mir.Syntax.{w64}
 use mir.Val.{ofZ}
 use lib.ListN.{length, take, drop, getD}
-use Rattle.std.specs.shelf.Lists.{joined}
-use Rattle.std.proofs.shelf.Lists.{take-rest, take-take, take-at, take-map, drop-take, drop-all, drop-drop, drop-map, drop-more, getD-take, getD-drop, length-append, length-take, length-drop, length-map, map-push}
-use Rattle.std.proofs.shelf.Tests.{and-parts, and-from, both-ways}
+use Rattle.std.proofs.shelf.Lists.{take-rest, take-at, take-map, drop-all, drop-drop, drop-map, drop-more, getD-take, getD-drop, length-append, length-take, length-drop, length-map, map-push}
 use Rattle.solid.specs.Shapes.{box as box-of}
 use Rattle.solid.specs.Steps.{words}
-use Rattle.grammar.specs.Grammar.{Expr, half, box, two, move, one, called, Name, Line, part, place, same-as, meet, model, same, oneOf, print}
-use Rattle.grammar.specs.Tokens.{tokAt, codeL, codeOf}
-use Rattle.grammar.specs.Faults.{most-parts}
-use Rattle.grammar.specs.Meaning.{Part, questions, short, scales, fine-shape, fine}
+use Rattle.grammar.specs.Grammar.{box, Name, Line, part, place, same-as, meet, model, same, print}
+use Rattle.grammar.specs.Tokens.{tokAt, codeOf}
+use Rattle.grammar.specs.Meaning.{Part, questions, fine}
 use Rattle.grammar.proofs.Once.{once}
 use Rattle.reader.specs.Names.{words-at}
-use Rattle.reader.specs.Layout.{Taken, Laid, with-part, part-names, part-steps, spot, asked-words}
-use Rattle.reader.specs.Lines.{Part-at, Place-at, pair-of}
+use Rattle.reader.specs.Layout.{Taken, Laid, part-names, part-steps, spot, asked-words}
+use Rattle.reader.specs.Lines.{Part-at, steps-at, pair-of, Place-at, question-at}
 use Rattle.reader.proofs.Numbers.{box-length}
-
-abbrev pub names-of : List Part → List (List ℕ)
-names-of ps = map (λ p. p .name) ps
-
--- the steps of some parts
-abbrev pub steps-of : List Part → List ℕ
-steps-of ps = joined (λ p. words (p .shape)) ps
-
--- where the steps of each part begin, and how many they are
-abbrev pub spots-of : ℕ → List Part → List ℕ
-spots-of u [] = []
-spots-of u (p ∷ ps) = u ∷ length (words (p .shape)) ∷ spots-of (u + length (words (p .shape))) ps
+use Rattle.reader.proofs.Spots.{names-of, steps-of, spots-of, steps-push, spots-push, pair-front, spot-pair}
+use Rattle.reader.proofs.Next.{part-sound, Sound, place-sound, Part-next, Place-next, Next, next, next-part, next-place}
 
 -- the tokens from one on, as they are lent
 abbrev pub tail : ℕ → List ℕ → List ℕ
@@ -107,89 +96,12 @@ front-inside text names m f k h =
     let l = length-take m names in
     omega (arith, f k (omega arith), getD-take m names k 0 (omega arith))
 
--- the line that comes next
-pub record Part-next (left : List Line) : Type 0 where
-  pub name : Name
-  pub x0 : ℤ
-  pub x1 : ℤ
-  pub y0 : ℤ
-  pub y1 : ℤ
-  pub z0 : ℤ
-  pub z1 : ℤ
-  pub more : List Line
-  pub is : left ≡ part name (box x0 x1 y0 y1 z0 z1) ∷ more
-
-pub record Place-next (left : List Line) : Type 0 where
-  pub name : Name
-  pub x : ℤ
-  pub y : ℤ
-  pub z : ℤ
-  pub w : ℤ
-  pub more : List Line
-  pub is : left ≡ place name x y z w ∷ more
-
-data Next (left : List Line) (w : List ℕ) : Type 0 where
-  a-part : w ≡ codes "part" → Part-next left → Next left w
-  a-place : w ≡ codes "place" → Place-next left → Next left w
-
--- what holds of a line that is taken
-pub part-sound : (ns : List (List ℕ)) (n : Name) (e : Expr) (ls : List Line) → fine ns (part n e ∷ ls) ≡ true → (fine-shape e ≡ true) × (fine (ns ++ n .0 ∷ []) ls ≡ true)
-part-sound ns n e ls h = and-parts (fine-shape e) _ (and-parts (not (oneOf ns (n .0))) _ (and-parts (ltb (length ns) most-parts) _ h .1) .1)
-
-pub record Sound (ns : List (List ℕ)) (n : Name) (x y z w : ℤ) (ls : List Line) : Type 0 where
-  pub known : oneOf ns (n .0) ≡ true
-  pub numbers : (short x && (short y && (short z && scales w))) ≡ true
-  pub later : fine ns ls ≡ true
-
-pub place-sound : (ns : List (List ℕ)) (n : Name) (x y z w : ℤ) (ls : List Line) → fine ns (place n x y z w ∷ ls) ≡ true → Sound ns n x y z w ls
-place-sound ns n x y z w ls h =
-    let k = and-parts (oneOf ns (n .0)) _ h in
-    let a = and-parts (short x) _ (k .1) in
-    let b = and-parts (short y) _ (a .1) in
-    let c = and-parts (short z) _ (b .1) in
-    let d = and-parts (scales w) (fine ns ls) (c .1) in
-    record { known = k .0; numbers = and-from (short x) _ (a .0) (and-from (short y) _ (b .0) (and-from (short z) (scales w) (c .0) (d .0))); later = d .1 }
-
-next : (ns : List (List ℕ)) (ls : List Line) (w : List ℕ) (ws : List (List ℕ)) → fine ns ls ≡ true → w ∷ ws ≡ codeOf ls → Next ls w
-next ns [] w ws h e = let z : _≡_ {A = ℕ} 0 1 = cc in absurd (omega arith)
-next ns (part n (half a b c d) ∷ ls) w ws h e = absurd (both-ways false refl (part-sound ns n (half a b c d) ls h .0))
-next ns (part n (box a b c d f g) ∷ ls) w ws h e =
-    a-part (cc) (record { name = n; x0 = a; x1 = b; y0 = c; y1 = d; z0 = f; z1 = g; more = ls; is = refl })
-next ns (part n (two o a b) ∷ ls) w ws h e = absurd (both-ways false refl (part-sound ns n (two o a b) ls h .0))
-next ns (part n (move x y z a) ∷ ls) w ws h e = absurd (both-ways false refl (part-sound ns n (move x y z a) ls h .0))
-next ns (part n (one o a) ∷ ls) w ws h e = absurd (both-ways false refl (part-sound ns n (one o a) ls h .0))
-next ns (part n (called m) ∷ ls) w ws h e = absurd (both-ways false refl (part-sound ns n (called m) ls h .0))
-next ns (place n x y z s ∷ ls) w ws h e = a-place (cc) (record { name = n; x = x; y = y; z = z; w = s; more = ls; is = refl })
-next ns (same-as n m ∷ ls) w ws h e = absurd (both-ways false refl h)
-next ns (meet n m ∷ ls) w ws h e = absurd (both-ways false refl h)
-next ns (model n ∷ ls) w ws h e = absurd (both-ways false refl h)
-
-next-part : (ls : List Line) (w : List ℕ) → Next ls w → same (codes "part") w ≡ true → Part-next ls
-next-part ls w (a-part e p) s = p
-next-part ls w (a-place e p) s = absurd (both-ways false refl (subst (λ (v : List ℕ). same (codes "part") v ≡ true) e s))
-
-next-place : (ls : List Line) (w : List ℕ) → Next ls w → same (codes "part") w ≡ false → Place-next ls
-next-place ls w (a-part e p) s = absurd (both-ways true (subst (λ (v : List ℕ). same (codes "part") v ≡ false) e s) refl)
-next-place ls w (a-place e p) s = p
-
 -- the words of the tokens behind some
 read-on : (text tokens : List ℕ) (at n : ℕ) (ws : List (List ℕ)) → words-at text (tail at tokens) ≡ ws → words-at text (tail (at + n) tokens) ≡ drop n ws
 read-on text tokens at n ws e =
     ap (words-at text) (take-rest tokens (at + n) ∙ sym (drop-drop n at tokens) ∙ ap (drop n) (sym (take-rest tokens at)))
     ∙ sym (drop-map (λ p. tokAt (drop p text)) n (tail at tokens))
     ∙ ap (drop n) e
-
--- one more part
-pub steps-push : (ps : List Part) (p : Part) → steps-of (ps ++ p ∷ []) ≡ steps-of ps ++ words (p .shape)
-steps-push [] p = append-nil (words (p .shape))
-steps-push (q ∷ ps) p = ap (λ (l : List ℕ). words (q .shape) ++ l) (steps-push ps p) ∙ sym (append-assoc (words (q .shape)) (steps-of ps) (words (p .shape)))
-
-spots-push : (u : ℕ) (ps : List Part) (p : Part) → spots-of u (ps ++ p ∷ []) ≡ spots-of u ps ++ (u + length (steps-of ps)) ∷ length (words (p .shape)) ∷ []
-spots-push u [] p = let e : u ≡ u + 0 = omega arith in ap (λ (m : ℕ). m ∷ length (words (p .shape)) ∷ []) e
-spots-push u (q ∷ ps) p =
-    let n = length (words (q .shape)) in
-    let e : u + n + length (steps-of ps) ≡ u + length (words (q .shape) ++ steps-of ps) = simp length-append (omega arith) in
-    ap (λ (l : List ℕ). u ∷ n ∷ l) (spots-push (u + n) ps p ∙ ap (λ (m : ℕ). spots-of (u + n) ps ++ m ∷ length (words (p .shape)) ∷ []) e)
 
 module _ {text tokens names spots steps asked : List ℕ} {at parts used count : ℕ} where
   -- a part's line
@@ -242,20 +154,6 @@ module _ {text tokens names spots steps asked : List ℕ} {at parts used count :
           count-is = s .count-is;
           parts-are = ap (λ (m : ℕ). m + 1) (s .parts-are) ∙ sym (length-append ps (p ∷ []));
         }
-
--- the spot of a part, by its name
-pair-front : (ns : List (List ℕ)) (xs w : List ℕ) (m : ℕ) → m ≡ 2 * length ns → pair-of ns (take m xs) w ≡ pair-of ns xs w
-pair-front [] xs w m e = refl
-pair-front (n ∷ ns) xs w m e =
-    let f : m ≡ 2 + 2 * length ns = omega arith in
-    let t : take 2 (take m xs) ≡ take 2 xs = take-take 2 m xs (omega arith) in
-    let d : pair-of ns (drop 2 (take m xs)) w ≡ pair-of ns (drop 2 xs) w =
-    ap (λ (k : ℕ). pair-of ns (drop 2 (take k xs)) w) f ∙ ap (λ (ys : List ℕ). pair-of ns ys w) (drop-take 2 (2 * length ns) xs) ∙ pair-front ns (drop 2 xs) w (2 * length ns) refl in
-    ap (λ (ys : List ℕ). cond (same w n) ys (pair-of ns (drop 2 (take m xs)) w)) t ∙ ap (cond (same w n) (take 2 xs)) d
-
-spot-pair : (u : ℕ) (ps : List Part) (w : List ℕ) → pair-of (names-of ps) (spots-of u ps) w ≡ spot u ps w
-spot-pair u [] w = refl
-spot-pair u (p ∷ ps) w = ap (cond (same w (p .name)) (u ∷ length (words (p .shape)) ∷ [])) (spot-pair (u + length (words (p .shape))) ps w)
 
 module _ {text tokens names spots steps asked : List ℕ} {at parts used count : ℕ} where
   -- a place's line
@@ -339,7 +237,7 @@ module _ {text tokens names spots steps asked : List ℕ} {at parts used count :
       part-there = part-at at-part
 
       pub part-laid : (spots′ steps′ : List ℕ) → take (2 * parts + 2) spots′ ≡ take (2 * parts) spots ++ used ∷ 11 ∷ [] →
-          ((p : Part-at text (tail at tokens)) → take (used + 11) steps′ ≡ take used steps ++ words (box-of (p .x0) (p .x1) (p .y0) (p .y1) (p .z0) (p .z1))) →
+          ((p : Part-at text (tail at tokens)) → take (used + 11) steps′ ≡ take used steps ++ steps-at p) →
           Going text tokens names spots′ steps′ asked (at + 9) (parts + 1) (used + 11) count
       unfolding part-at part-there
       part-laid spots′ steps′ es et =
@@ -360,8 +258,7 @@ module _ {text tokens names spots steps asked : List ℕ} {at parts used count :
       pub place-laid : (asked′ : List ℕ) →
           ((p : Place-at text (tail at tokens)) →
           take (6 * count + 6) asked′
-          ≡ take (6 * count) asked
-          ++ (pair-of (words-at text (take (parts - 0) names)) spots (p .name .0) ++ (ofZ w64 (p .x) ∷ ofZ w64 (p .y) ∷ ofZ w64 (p .z) ∷ natAbs (p .w) ∷ []))) →
+          ≡ take (6 * count) asked ++ question-at (words-at text (take (parts - 0) names)) spots p) →
           Going text tokens names spots steps asked′ (at + 6) parts used (count + 1)
       unfolding place-at
       place-laid asked′ ea =

@@ -11,5 +11,7 @@ pub mod Naming
 pub mod Examining
 pub mod Numbers
 pub mod Pairs
+pub mod Spots
+pub mod Next
 pub mod Laying
 pub mod Asked

@@ -1,4 +1,7 @@
--- The numbers of lines that are taken: they are in range.
+-- The numbers of lines that are taken.
+--     box-numbers, place-numbers      they are in range
+--     word-at, number-read            the k-th word, and the number that is read there
+--     box-length                      how many steps a box has
 use mathlib.Core.Path.{_≡_, refl, sym, _∙_}
 use mathlib.Core.List.{List, []}
 use mathlib.Core.Bool.{true, false, _&&_}

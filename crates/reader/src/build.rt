@@ -4,10 +4,8 @@ ghost use mathlib.Core.Path.{_≡_};
 ghost use mathlib.Core.List.{List, [], _∷_, _++_};
 ghost use Prim.Native.Nat.{ℕ, _+_, _*_, _<_, _≤_};
 ghost use lib.Chars.{codes};
-ghost use lib.IntN.{ℤ, natAbs};
+ghost use lib.IntN.{ℤ};
 ghost use lib.ListN.{length, take, drop, getD};
-ghost use mir.Syntax.{w64};
-ghost use mir.Val.{ofZ};
 ghost use Rattle.arith.specs.Bounds.{Short};
 ghost use Rattle.plane.specs.Limits.{Fits-plane};
 ghost use Rattle.solid.specs.Shapes.{plane, box};
@@ -16,7 +14,7 @@ ghost use Rattle.grammar.specs.Grammar.{signed, same, Line, print};
 ghost use Rattle.grammar.specs.Tokens.{tokAt};
 ghost use Rattle.grammar.specs.Values.{number-limit};
 ghost use Rattle.reader.specs.Layout.{Taken, Laid};
-ghost use Rattle.reader.specs.Lines.{Part-at, Place-at, pair-of};
+ghost use Rattle.reader.specs.Lines.{Part-at, steps-at, pair-of, Place-at, question-at};
 ghost use Rattle.reader.specs.Names.{words-at};
 use super::tokens::find_name;
 use super::tokens::number_at;
@@ -25,6 +23,18 @@ use super::types::Counts;
 use plane::types::Plane;
 use solid::steps::word_of;
 use solid::types::Step;
+
+/// How many words and numbers the line of a part has.
+const PART_TOKENS: usize = 9;
+
+/// How many words and numbers the line of a place has.
+const PLACE_TOKENS: usize = 6;
+
+/// How many steps a box has.
+const BOX_STEPS: usize = 11;
+
+/// How many words a question has.
+const QUESTION_WORDS: usize = 6;
 
 /// The word of a half-space.
 fn half_word(a: i64, b: i64, c: i64, d: i64) -> u64
@@ -35,7 +45,7 @@ fn half_word(a: i64, b: i64, c: i64, d: i64) -> u64
 }
 
 /// The steps of a box.
-fn box_words(x0: i64, x1: i64, y0: i64, y1: i64, z0: i64, z1: i64) -> [u64; 11]
+fn box_words(x0: i64, x1: i64, y0: i64, y1: i64, z0: i64, z1: i64) -> [u64; BOX_STEPS]
     requires low { ⌜ Short x0 number-limit ⌝ ∗ ⌜ Short y0 number-limit ⌝ ∗ ⌜ Short z0 number-limit ⌝ }
     requires high { ⌜ Short x1 number-limit ⌝ ∗ ⌜ Short y1 number-limit ⌝ ∗ ⌜ Short z1 number-limit ⌝ }
     ensures { λ r. ⌜ r ≡ words (box x0 x1 y0 y1 z0 z1) ⌝ }
@@ -68,11 +78,11 @@ fn number(text: &[u8], from: u64) -> i64
 }
 
 /// The steps of the box of a part's line.
-fn box_of(text: &[u8], line: &[u64]) -> [u64; 11]
+fn box_of(text: &[u8], line: &[u64]) -> [u64; BOX_STEPS]
     requires long { ⌜ 9 ≤ length (now line) ⌝ }
     requires inside { ⌜ ((k : ℕ) → k < length (now line) → getD (now line) k 0 < length (now text)) ⌝ }
     requires taken { ⌜ Part-at (now text) (now line) ⌝ }
-    ensures { λ r. ⌜ ((p : Part-at (now (text .entry)) (now (line .entry))) → r ≡ words (box (p .x0) (p .x1) (p .y0) (p .y1) (p .z0) (p .z1))) ⌝ }
+    ensures { λ r. ⌜ ((p : Part-at (now (text .entry)) (now (line .entry))) → r ≡ steps-at p) ⌝ }
 {
     let x0 = number(text, line[3]);
     let x1 = number(text, line[4]);
@@ -91,7 +101,7 @@ fn is_part(text: &[u8], from: u64) -> bool
     token_at(text, from as usize) == b"part"
 }
 
-/// The i-th two of some words.
+/// The i-th pair of words.
 fn pair_at(pairs: &[u64], i: usize) -> [u64; 2]
     requires { ⌜ 2 * i + 1 < length (now pairs) ⌝ }
     ensures { λ r. ⌜ r ≡ take 2 (drop (2 * i) (now (pairs .entry))) ⌝ }
@@ -126,12 +136,12 @@ fn part_line(
     requires spots_room { ⌜ 2 * parts + 2 ≤ length (now spots) ⌝ }
     requires steps_room { ⌜ used + 11 ≤ length (now steps) ⌝ }
     ensures spots { λ _. ⌜ take (2 * parts + 2) (now (spots .exit)) ≡ take (2 * parts) (now (spots .entry)) ++ used ∷ 11 ∷ [] ⌝ }
-    ensures steps { λ _. ⌜ ((p : Part-at (now (text .entry)) (now (line .entry))) → take (used + 11) (now (steps .exit)) ≡ take used (now (steps .entry)) ++ words (box (p .x0) (p .x1) (p .y0) (p .y1) (p .z0) (p .z1))) ⌝ }
+    ensures steps { λ _. ⌜ ((p : Part-at (now (text .entry)) (now (line .entry))) → take (used + 11) (now (steps .exit)) ≡ take used (now (steps .entry)) ++ steps-at p) ⌝ }
 {
     let words = box_of(text, line);
-    steps[used..used + 11].copy_from_slice(&words);
+    steps[used..used + BOX_STEPS].copy_from_slice(&words);
     spots[2 * parts] = used as u64;
-    spots[2 * parts + 1] = 11;
+    spots[2 * parts + 1] = BOX_STEPS as u64;
 }
 
 /// A place's line: writes its question behind the first `count`.
@@ -148,7 +158,7 @@ fn place_line(
     requires names { ⌜ ((k : ℕ) → k < length (now names) → getD (now names) k 0 ≤ length (now text)) ⌝ }
     requires spots { ⌜ 2 * length (now names) ≤ length (now spots) ⌝ }
     requires asked_room { ⌜ 6 * count + 6 ≤ length (now asked) ⌝ }
-    ensures { λ _. ⌜ ((p : Place-at (now (text .entry)) (now (line .entry))) → take (6 * count + 6) (now (asked .exit)) ≡ take (6 * count) (now (asked .entry)) ++ (pair-of (words-at (now (text .entry)) (now (names .entry))) (now (spots .entry)) (p .name .0) ++ (ofZ w64 (p .x) ∷ ofZ w64 (p .y) ∷ ofZ w64 (p .z) ∷ natAbs (p .w) ∷ []))) ⌝ }
+    ensures { λ _. ⌜ ((p : Place-at (now (text .entry)) (now (line .entry))) → take (6 * count + 6) (now (asked .exit)) ≡ take (6 * count) (now (asked .entry)) ++ question-at (words-at (now (text .entry)) (now (names .entry))) (now (spots .entry)) p) ⌝ }
 {
     let spot = spot_of(text, names, spots, token_at(text, line[1] as usize));
     let x = number(text, line[2]);
@@ -163,7 +173,8 @@ fn place_line(
         z.cast_unsigned(),
         w.cast_unsigned(),
     ];
-    asked[6 * count..6 * count + 6].copy_from_slice(&question);
+    let start = QUESTION_WORDS * count;
+    asked[start..start + QUESTION_WORDS].copy_from_slice(&question);
 }
 
 /// Lays a text that is taken into words: the steps of its parts, and its questions.
@@ -189,12 +200,12 @@ pub(crate) fn build(
         let line = &tokens[at..];
         if is_part(text, line[0]) {
             part_line(text, line, parts, used, spots, steps);
-            at += 9;
+            at += PART_TOKENS;
             parts += 1;
-            used += 11;
+            used += BOX_STEPS;
         } else {
             place_line(text, line, &names[0..parts], spots, count, asked);
-            at += 6;
+            at += PLACE_TOKENS;
             count += 1;
         }
     }

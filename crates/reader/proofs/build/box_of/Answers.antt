@@ -1,4 +1,4 @@
-use mathlib.Core.Path.{_≡_, _∙_, ap}
+use mathlib.Core.Path.{_≡_, ap}
 use mathlib.Core.List.{List, []}
 use Prim.Native.Nat.{ℕ, _≤_}
 use lib.IntN.{ℤ}
@@ -12,7 +12,7 @@ use Rattle.grammar.specs.Grammar.{signed}
 use Rattle.grammar.specs.Tokens.{tokAt}
 use Rattle.grammar.specs.Values.{number-limit}
 use Rattle.reader.specs.Lines.{Part-at}
-use Rattle.reader.proofs.Numbers.{Numbers, box-numbers, number-read}
+use Rattle.reader.proofs.Numbers.{box-numbers, number-read}
 use Rattle.reader.proofs.build.box_of.Needs as need
 
 -- what is read where a number stands

@@ -11,7 +11,7 @@ use Rattle.arith.specs.Bounds.{Short}
 use Rattle.grammar.specs.Grammar.{signed}
 use Rattle.grammar.specs.Tokens.{tokAt}
 use Rattle.grammar.specs.Values.{number-limit}
-use Rattle.reader.specs.Lines.{Place-at, pair-of}
+use Rattle.reader.specs.Lines.{pair-of}
 use Rattle.reader.specs.Names.{words-at}
 use Rattle.reader.proofs.Numbers.{place-numbers, word-at, number-read}
 use Rattle.reader.proofs.Pairs.{pair-whole, written}

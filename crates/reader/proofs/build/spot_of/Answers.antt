@@ -1,9 +1,6 @@
-use mathlib.Core.Path.{_≡_, sym, _∙_}
-use Prim.Native.Nat.{_<_}
-use lib.ListN.{length}
+use mathlib.Core.Path.{sym, _∙_}
 use native.Mathlib.Omega.{arith}
 use Rattle.std.proofs.shelf.Lists.{length-map}
-use Rattle.grammar.specs.Tokens.{tokAt}
 use Rattle.reader.specs.Names.{words-at}
 use Rattle.reader.proofs.Pairs.{pair-none, pair-some}
 use Rattle.reader.proofs.build.spot_of.Needs as need
