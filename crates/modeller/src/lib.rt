@@ -10,6 +10,8 @@ ghost use Rattle.modeller.specs.Drawings.{Opened, number-and-place};
 ghost use Rattle.modeller.specs.Replies.{asks, refusal-of, Replied, place-in, steps-in, Ready, work-needed};
 pub mod drawing;
 pub mod types;
+#[cfg(test)]
+mod tests;
 use drawing::Drawing;
 use plane::types::Place;
 use reader::types::Refusal;
