@@ -4,3 +4,4 @@ pub mod Poly
 pub mod Solve
 pub mod Sized
 pub mod Steps
+mod Uses

@@ -1,5 +1,9 @@
--- Expressions over signed 64-bit numbers: a term of the code stands for an integer of bounded size.
+-- Sums of products in signed 64 bits: a term of the code stands for an integer of bounded size, and the bound computes.
 --     Is t z n      t, which may pass to bits and back, is z, and z is from -n to n
+-- A term is built up as the code builds it, from `is-num` (a number that is read) by `is-mul`, `is-add`, `is-sub` and `is-neg`, with `is-back`
+-- where the code keeps a result in 64 bits; `is-fits` says that it fits, and `.same` that it is the integer. Each `tt` is a comparison of
+-- numerals. So for `p * x + q * y`, where P and Q are p's and q's bounds:
+--     is-fits (is-add (is-back (is-mul (is-num P tt) (is-num X tt)) tt) (is-back (is-mul (is-num Q tt) (is-num Y tt)) tt)) tt
 use mathlib.Core.Path.{_≡_, refl, sym, ap, _∙_, subst}
 use mathlib.Core.Bool.{Bool, true, false}
 use Prim.Native.Nat.{ℕ, _+_, _*_, _≤_, _<_, _^_}

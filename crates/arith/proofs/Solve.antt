@@ -1,4 +1,16 @@
--- Identities and their consequences, over values that a λ names: `solve n (λ x y .. . CLAIM) refl` proves the claim for all values.
+-- Polynomial identities over the integers, and what follows from them: `solve n (λ x y .. . CLAIM) refl` proves the claim for all values of
+-- its n variables. The claim is written over expressions, with `:+`, `:-`, `:*`, `negE` and `con`; both sides are brought to a normal form, a
+-- sorted sum of monomials, which computes. Uses.antt has these, checked, and larger ones:
+--
+--   an identity:              solve 2 (λ x y. (x :+ y) :* (x :- y) := x :* x :- y :* y) refl
+--   from equations, each with the factor that it is taken with (`u · h ⇒ ..`, or `h ⟹ ..` for the factor 1):
+--                             solve 4 (λ x y z w. z · x := y ⇒ y · z := w ⇒ x :* z := y :* w) refl
+--   an order, from orders with factors that are numbers, or (`u ⊙ h ⇒ ..`) that are at least 0 by a hypothesis of their own:
+--                             solve 3 (λ a b c. c ⊙ a :≤ b ⇒ c :* a :≤ c :* b) refl
+--
+-- A large term may be handed over as one value, so that nothing in it is multiplied out. What the goal says is matched by computation: a
+-- definition of specs/ that is in it is an `abbrev`, or named on an `unfolding` line. Where the check is refused, the left side of `≡ ok` says
+-- what is left of the difference.
 use mathlib.Core.Path.{_≡_, refl, sym, _∙_, ap, ap₂, subst}
 use mathlib.Core.List.{List, [], _∷_}
 use mathlib.Core.Bool.{Bool, true, false}

@@ -18,7 +18,6 @@ use Rattle.grammar.specs.Tokens.{inTok, tokAt, startsFrom, codeE, codeOf}
 use Rattle.grammar.specs.Values.{readOn, number-limit, scale-most}
 use Rattle.grammar.specs.Faults.{Fault, fault, Token, token, tokens, Role, new-name, used-name, shape, measure, scale, of-part, of-place, of-box, scan, if-so, looked, word-faults, amount, negative, beyond, no-scale, most-parts, later}
 use Rattle.grammar.specs.Meaning.{short, scales, fine, fine-shape}
-
 use Rattle.grammar.proofs.First.{all-inside}
 use Rattle.grammar.proofs.Tokens.{text-code, placed}
 use Rattle.grammar.proofs.Exact.{same-eq}
@@ -171,7 +170,7 @@ clean-shape : (names : List (List ℕ)) (e : Expr) (ws : List (List ℕ)) (b : B
 clean-shape names (half a b c d) ws t h = refl
 clean-shape names (box x0 x1 y0 y1 z0 z1) ws t h =
     ap₂ (λ x y. x && y) (not-beyond x0) (ap₂ (λ x y. x && y) (not-beyond x1) (ap₂ (λ x y. x && y) (not-beyond y0) (ap₂ (λ x y. x && y) (not-beyond y1)
-      (ap₂ (λ x y. x && y) (not-beyond z0) (ap₂ (λ x y. x && y) (not-beyond z1) h)))))
+    (ap₂ (λ x y. x && y) (not-beyond z0) (ap₂ (λ x y. x && y) (not-beyond z1) h)))))
     ∙ six (short x0) (short x1) (short y0) (short y1) (short z0) (short z1) t
   where
     six : (a b c d e f t : Bool) → (a && (b && (c && (d && (e && (f && t)))))) ≡ ((a && (b && (c && (d && (e && f))))) && t)
@@ -219,7 +218,7 @@ pub looked-all : (bs : List ℕ) → looked (length bs) bs ≡ tokens bs
 looked-all bs =
     kept-all (λ t. leb (t .start + length (t .word)) (length bs)) (tokens bs)
     (all-map (λ t. leb (t .start + length (t .word)) (length bs) ≡ true) (λ p. token p (tokAt (drop p bs))) (startsFrom false 0 bs)
-      (all-weaker (λ p. p < length bs) (λ p. leb (p + length (tokAt (drop p bs))) (length bs) ≡ true) ends (startsFrom false 0 bs) (all-inside bs)))
+    (all-weaker (λ p. p < length bs) (λ p. leb (p + length (tokAt (drop p bs))) (length bs) ≡ true) ends (startsFrom false 0 bs) (all-inside bs)))
   where
     ends : (p : ℕ) → p < length bs → leb (p + length (tokAt (drop p bs))) (length bs) ≡ true
     ends p h = le-leb _ _ (let k = tok-short (drop p bs) in omega (arith, length-drop p bs))

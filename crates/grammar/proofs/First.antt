@@ -81,7 +81,7 @@ pub faults-inside : (read : ℕ) (bs : List ℕ) → All (λ f. f .place < lengt
 faults-inside read bs =
     scan-places (λ p. p < length bs) [] [] (looked read bs)
     (all-kept (λ t. t .start < length bs) (λ t. leb (t .start + length (t .word)) read) (tokens bs)
-      (all-map (λ t. t .start < length bs) (λ p. token p (tokAt (drop p bs))) (startsFrom false 0 bs) (all-inside bs)))
+    (all-map (λ t. t .start < length bs) (λ p. token p (tokAt (drop p bs))) (startsFrom false 0 bs) (all-inside bs)))
 
 -- bytes begin a text so far and no farther
 pub one-reach : (bs : List ℕ) (p q : ℕ) → Reaches bs p → Reaches bs q → p ≡ q
@@ -104,10 +104,10 @@ reach-refused bs p r = record { inside = r .inside; so-far = r .so-far; no-more 
 
 pub reach-text : (bs : List ℕ) → Text bs → Reaches bs (length bs)
 reach-text bs t = record {
-    inside = omega arith;
-    so-far = ([], subst Text (sym (append-nil _ ∙ take-all (length bs) bs (omega arith))) t);
-    no-more = λ h. absurd (omega arith)
-  }
+  inside = omega arith;
+  so-far = ([], subst Text (sym (append-nil _ ∙ take-all (length bs) bs (omega arith))) t);
+  no-more = λ h. absurd (omega arith);
+}
 
 -- the first of the words' faults is the first of all
 module _ (bs : List ℕ) (p : ℕ) (reach : Reaches (take most-bytes bs) p) where
@@ -122,9 +122,9 @@ module _ (bs : List ℕ) (p : ℕ) (reach : Reaches (take most-bytes bs) p) wher
 
   pub first-word : (f : Fault) (rest : List Fault) → here ≡ f ∷ rest → First-fault bs f
   first-word f rest e = record {
-      so = wrong p reach (subst (λ (l : List Fault). Has l f) (sym e) (0, omega arith, λ d. refl));
-      first = go
-    }
+    so = wrong p reach (subst (λ (l : List Fault). Has l f) (sym e) (0, omega arith, λ d. refl));
+    first = go;
+  }
     where
       low : f .place < p
       low = subst (λ (l : List Fault). All (λ g. g .place < p) l) e below-reach .0

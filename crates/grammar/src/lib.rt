@@ -3,6 +3,7 @@
 ghost use mathlib.Core.Path.{_≡_};
 ghost use mathlib.Core.Bool.{true};
 ghost use Rattle.grammar.specs.Laws.{One-list, One-place, Not-both, Fine-faultless, One-fault};
+
 pub mod types;
 
 /// What holds of the texts: each is one list of lines at most; other bytes are refused at one place; lines that

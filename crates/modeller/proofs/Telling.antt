@@ -38,30 +38,30 @@ use Rattle.modeller.specs.Replies.{Ready, place-in, steps-in, work-needed, Rep
 -- each of these is a proposition
 laid-prop : (ls : List Line) (n : Counts) (steps asked : List ℕ) → IsProp (Laid ls n steps asked)
 laid-prop ls n steps asked a b = λ i. record {
-    steps-are = words-set _ _ (a .steps-are) (b .steps-are) i;
-    used-fits = le-prop (a .used-fits) (b .used-fits) i;
-    asked-are = words-set _ _ (a .asked-are) (b .asked-are) i;
-    asked-fits = le-prop (a .asked-fits) (b .asked-fits) i;
-    count = hedberg ℕ-discrete _ _ (a .count) (b .count) i
-  }
+  steps-are = words-set _ _ (a .steps-are) (b .steps-are) i;
+  used-fits = le-prop (a .used-fits) (b .used-fits) i;
+  asked-are = words-set _ _ (a .asked-are) (b .asked-are) i;
+  asked-fits = le-prop (a .asked-fits) (b .asked-fits) i;
+  count = hedberg ℕ-discrete _ _ (a .count) (b .count) i;
+}
 
 small-prop : (q : Place) → IsProp (Small-place q)
 small-prop q a b = λ i. record {
-    x = short-prop _ _ (a .x) (b .x) i;
-    y = short-prop _ _ (a .y) (b .y) i;
-    z = short-prop _ _ (a .z) (b .z) i;
-    w = le-prop (a .w) (b .w) i;
-    real = le-prop (a .real) (b .real) i
-  }
+  x = short-prop _ _ (a .x) (b .x) i;
+  y = short-prop _ _ (a .y) (b .y) i;
+  z = short-prop _ _ (a .z) (b .z) i;
+  w = le-prop (a .w) (b .w) i;
+  real = le-prop (a .real) (b .real) i;
+}
 
 ready-prop : (steps asked : List ℕ) (k : ℕ) → IsProp (Ready steps asked k)
 ready-prop steps asked k a b = λ i. record {
-    inside = le-prop (a .inside) (b .inside) i;
-    steps-inside = le-prop (a .steps-inside) (b .steps-inside) i;
-    coded = coded-prop (steps-in steps asked k) (a .coded) (b .coded) i;
-    small = small-prop (place-in asked k) (a .small) (b .small) i;
-    few = le-prop (a .few) (b .few) i
-  }
+  inside = le-prop (a .inside) (b .inside) i;
+  steps-inside = le-prop (a .steps-inside) (b .steps-inside) i;
+  coded = coded-prop (steps-in steps asked k) (a .coded) (b .coded) i;
+  small = small-prop (place-in asked k) (a .small) (b .small) i;
+  few = le-prop (a .few) (b .few) i;
+}
 
 -- what lies in the words for a question
 module _ (steps asked : List ℕ) (k : ℕ) (q : Question) (l : Lies steps asked k q) where
@@ -80,12 +80,12 @@ module _ (steps asked : List ℕ) (k : ℕ) (q : Question) (l : Lies steps asked
 
   pub ready : Ready steps asked k
   ready = record {
-      inside = l .inside;
-      steps-inside = let h = l .steps-inside in omega (arith, l .from-is, l .count-is);
-      coded = record { shape = l .shape; is = steps-are; fits = l .fits };
-      small = subst Small-place (sym place-is) (l .small);
-      few = let h = l .fits .few in omega (arith, l .count-is, l .long, words-length (l .shape))
-    }
+    inside = l .inside;
+    steps-inside = let h = l .steps-inside in omega (arith, l .from-is, l .count-is);
+    coded = record { shape = l .shape; is = steps-are; fits = l .fits };
+    small = subst Small-place (sym place-is) (l .small);
+    few = let h = l .fits .few in omega (arith, l .count-is, l .long, words-length (l .shape));
+  }
 
 -- a drawing that is taken
 module _ (n : Counts) (text steps asked : List ℕ) (d : ∥ Drawn (Taken n) text steps asked ∥₁) where
@@ -103,10 +103,10 @@ module _ (n : Counts) (text steps asked : List ℕ) (d : ∥ Drawn (Taken n) tex
   -- behind the last question there is none
   pub reply-none : (work k : ℕ) → work-needed ≤ work → n .asked ≤ k → Replied (Taken n) text work k NoQuestion
   reply-none work k h m = (
-      λ l. absurd (omega arith),
-      λ _ _. refl,
-      λ ls q _ e l g. absurd (omega (arith, drawn-laid ls e .count))
-    )
+    λ l. absurd (omega arith),
+    λ _ _. refl,
+    λ ls q _ e l g. absurd (omega (arith, drawn-laid ls e .count)),
+  )
 
   -- a question about a place
   pub reply-place : (work k : ℕ) (r : Reply) → work-needed ≤ work → k < n .asked →
@@ -117,6 +117,6 @@ module _ (n : Counts) (text steps asked : List ℕ) (d : ∥ Drawn (Taken n) tex
       go ls q _ e l g =
           let lies = laid-lies ls n steps asked (drawn-laid ls e) (drawn-fine ls e) k m q in
           let a : r ≡ At-place (told (lies .shape) (lies .place)) =
-              f (lies .shape) (lies .fits) (steps-are steps asked k _ lies) ∙ ap (λ (p : Place). At-place (told (lies .shape) p)) (place-is steps asked k _ lies) in
+          f (lies .shape) (lies .fits) (steps-are steps asked k _ lies) ∙ ap (λ (p : Place). At-place (told (lies .shape) p)) (place-is steps asked k _ lies) in
           let P : Question → Type 0 = λ u. Answers u r in
           subst P (sym (lies .is) ∙ g) a

@@ -54,11 +54,11 @@ Replied (Taken n) text work k r =
 -- the place of the k-th question, and where its part's steps are
 abbrev pub place-in : List ℕ → ℕ → Spot
 place-in asked k = record {
-    x = toZ w64 (getD asked (6 * k + 2) 0);
-    y = toZ w64 (getD asked (6 * k + 3) 0);
-    z = toZ w64 (getD asked (6 * k + 4) 0);
-    w = getD asked (6 * k + 5) 0
-  }
+  x = toZ w64 (getD asked (6 * k + 2) 0);
+  y = toZ w64 (getD asked (6 * k + 3) 0);
+  z = toZ w64 (getD asked (6 * k + 4) 0);
+  w = getD asked (6 * k + 5) 0;
+}
 
 abbrev pub steps-in : List ℕ → List ℕ → ℕ → List ℕ
 steps-in steps asked k = take (getD asked (6 * k + 1) 0) (drop (getD asked (6 * k) 0) steps)

@@ -8,10 +8,12 @@ ghost use Rattle.solid.specs.Shapes.{Shape, Fits};
 ghost use Rattle.solid.specs.Steps.{words};
 ghost use Rattle.modeller.specs.Drawings.{Opened, number-and-place};
 ghost use Rattle.modeller.specs.Replies.{asks, refusal-of, Replied, place-in, steps-in, Ready, work-needed};
+
 pub mod drawing;
-pub mod types;
 #[cfg(test)]
 mod tests;
+pub mod types;
+
 use drawing::Drawing;
 use plane::types::Place;
 use reader::types::Refusal;
@@ -31,7 +33,12 @@ impl<'t, 's> Drawing<'t, 's> {
     {
         let n = text.len();
         if n > 2305843009213693948 || lent.len() < 8 * n + 15 {
-            return Drawing { text, steps: lent, asked: &[], state: State::Refused(Refused::Steps) };
+            return Drawing {
+                text,
+                steps: lent,
+                asked: &[],
+                state: State::Refused(Refused::Steps),
+            };
         }
         let (stack, rest) = lent.split_at_mut(2 * n + 15);
         let (tokens, rest) = rest.split_at_mut(n);
@@ -42,7 +49,12 @@ impl<'t, 's> Drawing<'t, 's> {
             Ok(counts) => State::Taken(counts),
             Err(fault) => State::Refused(Refused::Text(fault)),
         };
-        Drawing { text, steps, asked, state }
+        Drawing {
+            text,
+            steps,
+            asked,
+            state,
+        }
     }
 
     /// Why the text is refused, if it is.

@@ -19,30 +19,126 @@ struct Case {
 }
 
 const CASES: [Case; 24] = [
-    Case { text: b"", number: 0, place: 0 },
-    Case { text: b"\n", number: 1, place: 0 },
-    Case { text: b"part a = box 0 2 0 2 0 2\n", number: 0, place: 0 },
-    Case { text: b"part a = box 0 2 0 2 0 2", number: 1, place: 24 },
-    Case { text: b"part a = box 0 2 0 2 0 2\nplace a 1 1 1 1\n", number: 0, place: 1 },
-    Case { text: b"part a = box 2 0 2 0 2 0\nplace a 1 1 1 4096\n", number: 0, place: 1 },
-    Case { text: b"part a = box 0 2 0 2 0 2\nplace b 1 1 1 1\n", number: 2, place: 31 },
-    Case { text: b"place a 1 1 1 1\npart a = box 0 2 0 2 0 2\n", number: 2, place: 6 },
-    Case { text: b"part a = box 0 2 0 2 0 2\npart a = box 0 2 0 2 0 2\n", number: 2, place: 30 },
-    Case { text: b"part a = box -294912 294912 0 2 0 2\n", number: 0, place: 0 },
-    Case { text: b"part a = box -294913 294912 0 2 0 2\n", number: 4, place: 13 },
-    Case { text: b"part a = box 0 2 0 2 0 294913 ", number: 4, place: 23 },
-    Case { text: b"part a = box 0 2 0 2 0 02\n", number: 1, place: 24 },
-    Case { text: b"part a = box 0 2 0 2 0 -0\n", number: 1, place: 24 },
-    Case { text: b"part a = box 0 2 0 2 0 2\nplace a 1 1 1 0\n", number: 4, place: 39 },
-    Case { text: b"part a = box 0 2 0 2 0 2\nplace a 1 1 1 -1\n", number: 4, place: 39 },
-    Case { text: b"part a = box 0 2 0 2 0 2\nplace a 1 1 1 4097\n", number: 4, place: 39 },
-    Case { text: b"part a = box 0 2 0 2 0 2\nplace a 1 1 1 01\n", number: 4, place: 39 },
-    Case { text: b"part a = box 0 2 0 2 0 2\nplace a 1 1 1 -0\n", number: 1, place: 40 },
-    Case { text: b"part a = box 0 2 0 2 0 2\nplace ab 1 1 1 1\n", number: 2, place: 31 },
-    Case { text: b"part box = box 0 2 0 2 0 2\n", number: 1, place: 8 },
-    Case { text: b"part boxy = box 0 2 0 2 0 2\n", number: 0, place: 0 },
-    Case { text: b"part a = half 1 0 0 5\n", number: 1, place: 9 },
-    Case { text: b"part a = box 0 2 0 2 0 2\nmodel a\n", number: 1, place: 25 },
+    Case {
+        text: b"",
+        number: 0,
+        place: 0,
+    },
+    Case {
+        text: b"\n",
+        number: 1,
+        place: 0,
+    },
+    Case {
+        text: b"part a = box 0 2 0 2 0 2\n",
+        number: 0,
+        place: 0,
+    },
+    Case {
+        text: b"part a = box 0 2 0 2 0 2",
+        number: 1,
+        place: 24,
+    },
+    Case {
+        text: b"part a = box 0 2 0 2 0 2\nplace a 1 1 1 1\n",
+        number: 0,
+        place: 1,
+    },
+    Case {
+        text: b"part a = box 2 0 2 0 2 0\nplace a 1 1 1 4096\n",
+        number: 0,
+        place: 1,
+    },
+    Case {
+        text: b"part a = box 0 2 0 2 0 2\nplace b 1 1 1 1\n",
+        number: 2,
+        place: 31,
+    },
+    Case {
+        text: b"place a 1 1 1 1\npart a = box 0 2 0 2 0 2\n",
+        number: 2,
+        place: 6,
+    },
+    Case {
+        text: b"part a = box 0 2 0 2 0 2\npart a = box 0 2 0 2 0 2\n",
+        number: 2,
+        place: 30,
+    },
+    Case {
+        text: b"part a = box -294912 294912 0 2 0 2\n",
+        number: 0,
+        place: 0,
+    },
+    Case {
+        text: b"part a = box -294913 294912 0 2 0 2\n",
+        number: 4,
+        place: 13,
+    },
+    Case {
+        text: b"part a = box 0 2 0 2 0 294913 ",
+        number: 4,
+        place: 23,
+    },
+    Case {
+        text: b"part a = box 0 2 0 2 0 02\n",
+        number: 1,
+        place: 24,
+    },
+    Case {
+        text: b"part a = box 0 2 0 2 0 -0\n",
+        number: 1,
+        place: 24,
+    },
+    Case {
+        text: b"part a = box 0 2 0 2 0 2\nplace a 1 1 1 0\n",
+        number: 4,
+        place: 39,
+    },
+    Case {
+        text: b"part a = box 0 2 0 2 0 2\nplace a 1 1 1 -1\n",
+        number: 4,
+        place: 39,
+    },
+    Case {
+        text: b"part a = box 0 2 0 2 0 2\nplace a 1 1 1 4097\n",
+        number: 4,
+        place: 39,
+    },
+    Case {
+        text: b"part a = box 0 2 0 2 0 2\nplace a 1 1 1 01\n",
+        number: 4,
+        place: 39,
+    },
+    Case {
+        text: b"part a = box 0 2 0 2 0 2\nplace a 1 1 1 -0\n",
+        number: 1,
+        place: 40,
+    },
+    Case {
+        text: b"part a = box 0 2 0 2 0 2\nplace ab 1 1 1 1\n",
+        number: 2,
+        place: 31,
+    },
+    Case {
+        text: b"part box = box 0 2 0 2 0 2\n",
+        number: 1,
+        place: 8,
+    },
+    Case {
+        text: b"part boxy = box 0 2 0 2 0 2\n",
+        number: 0,
+        place: 0,
+    },
+    Case {
+        text: b"part a = half 1 0 0 5\n",
+        number: 1,
+        place: 9,
+    },
+    Case {
+        text: b"part a = box 0 2 0 2 0 2\nmodel a\n",
+        number: 1,
+        place: 25,
+    },
 ];
 
 /// What a text is told: the number and the place of its refusal, or 0 and how many questions it asks.

@@ -59,7 +59,7 @@ module _ (bs : List ℕ) (read : ℕ) (names : List ℕ) (parts : ℕ) (e : Expe
       record {
         faults = ap (scan (words-at bs (take parts names)) (expected e)) (sym r) ∙ inv .faults;
         named = ap (λ (l : List Token). words-at bs (take parts names) ++ named-in (expected e) l) (sym r) ∙ inv .named;
-        inside = inv .inside
+        inside = inv .inside;
       }
 
   seen : whole read word ≡ true → rest-of bs read (drop k ps) ≡ word ∷ rest-of bs read (drop (k + 1) ps)
@@ -77,7 +77,7 @@ module _ (bs : List ℕ) (read : ℕ) (names : List ℕ) (parts : ℕ) (e : Expe
         named =
             ap (λ (ms : List (List ℕ)). ms ++ named-in (expected f) rest) (n ∙ grown e ns (word .word)) ∙ append-assoc ns (with-name e [] (word .word)) (named-in (expected f) rest)
             ∙ ap (λ (ms : List (List ℕ)). ns ++ ms) (sym (l rest .1)) ∙ ap (λ (ts : List Token). ns ++ named-in (expected e) ts) (sym (seen g)) ∙ inv .named;
-        inside = i
+        inside = i;
       }
 
   -- a word that is wrong
@@ -91,10 +91,9 @@ module _ (bs : List ℕ) (read : ℕ) (names : List ℕ) (parts : ℕ) (e : Expe
       (word-faults read bs ≡ []) × (words-at bs (take parts names) ≡ named-in [] (looked read bs))
   turn-done g l =
       let ns = words-at bs (take parts names) in
-      let rest = rest-of bs read (drop (k + 1) ps) in
-      (
+      let rest = rest-of bs read (drop (k + 1) ps) in (
         sym (inv .faults) ∙ ap (scan ns (expected e)) (seen g) ∙ l rest .0,
-        sym (append-nil ns) ∙ ap (λ (ms : List (List ℕ)). ns ++ ms) (sym (l rest .1)) ∙ ap (λ (ts : List Token). ns ++ named-in (expected e) ts) (sym (seen g)) ∙ inv .named
+        sym (append-nil ns) ∙ ap (λ (ms : List (List ℕ)). ns ++ ms) (sym (l rest .1)) ∙ ap (λ (ts : List Token). ns ++ named-in (expected e) ts) (sym (seen g)) ∙ inv .named,
       )
 
 -- the end
@@ -102,10 +101,9 @@ pub turn-over : (bs : List ℕ) (read : ℕ) (names : List ℕ) (parts : ℕ) (e
     (word-faults read bs ≡ []) × (words-at bs (take parts names) ≡ named-in [] (looked read bs))
 turn-over bs read names parts e ps k h inv =
     let ns = words-at bs (take parts names) in
-    let r : rest-of bs read (drop k ps) ≡ [] = ap (rest-of bs read) (drop-all k ps h) in
-    (
+    let r : rest-of bs read (drop k ps) ≡ [] = ap (rest-of bs read) (drop-all k ps h) in (
       sym (inv .faults) ∙ ap (scan ns (expected e)) r ∙ scan-none (expected e) ns,
-      sym (append-nil ns) ∙ ap (λ (ms : List (List ℕ)). ns ++ ms) (sym (named-none (expected e))) ∙ ap (λ (ts : List Token). ns ++ named-in (expected e) ts) (sym r) ∙ inv .named
+      sym (append-nil ns) ∙ ap (λ (ms : List (List ℕ)). ns ++ ms) (sym (named-none (expected e))) ∙ ap (λ (ts : List Token). ns ++ named-in (expected e) ts) (sym r) ∙ inv .named,
     )
   where
     scan-none : (rs : List Role) (ms : List (List ℕ)) → scan ms rs [] ≡ []
@@ -119,10 +117,10 @@ turn-over bs read names parts e ps k h inv =
 -- the first turn
 pub turn-first : (bs : List ℕ) (read : ℕ) (names ps : List ℕ) → ps ≡ startsFrom false 0 bs → Scanned bs read names 0 AtLine ps
 turn-first bs read names ps e = record {
-    faults = ap (λ (l : List ℕ). scan [] [] (rest-of bs read l)) e;
-    named = ap (λ (l : List ℕ). named-in [] (rest-of bs read l)) e;
-    inside = λ k h. absurd (omega arith)
-  }
+  faults = ap (λ (l : List ℕ). scan [] [] (rest-of bs read l)) e;
+  named = ap (λ (l : List ℕ). named-in [] (rest-of bs read l)) e;
+  inside = λ k h. absurd (omega arith);
+}
 
 -- a name put behind the others
 pub name-put : (bs names : List ℕ) (parts p : ℕ) → parts < length names → words-at bs (take (parts + 1) (set names parts p)) ≡ words-at bs (take parts names) ++ tokAt (drop p bs) ∷ []

@@ -47,7 +47,7 @@ reached-whole bs n e t =
       inside = omega arith;
       reaches = subst (Reaches (take most-bytes bs)) l (reach-text (take most-bytes bs) v);
       text = λ _. v;
-      refused = λ f. absurd (both-ways true f refl)
+      refused = λ f. absurd (both-ways true f refl);
     }
 
 pub reached-bad : (bs : List ℕ) (n p : ℕ) → n ≡ min (length bs) most-bytes → Refused (take (n - 0) bs) p → Reached (record { at = p; whole = false }) bs
@@ -58,7 +58,7 @@ reached-bad bs n p e r =
       inside = omega (arith, length-take most-bytes bs);
       reaches = reach-refused (take most-bytes bs) p v;
       text = λ f. absurd (both-ways false refl f);
-      refused = λ _. v
+      refused = λ _. v;
     }
 
 -- the last fault
@@ -80,8 +80,8 @@ module _ (bs : List ℕ) (r : Reach) (reached : Reached r bs) (clean : word-faul
 -- a text without a fault
 module _ (bs : List ℕ) (r : Reach) (n : Found) (tokens names : List ℕ) (reached : Reached r bs) (t : Text bs) (short : length bs ≤ most-bytes)
     (w : (word-faults (seen bs (r .at)) (take (r .at) bs) ≡ []) × (n .words ≤ length (take (r .at) bs)) × (take (n .words) tokens ≡ startsFrom false 0 (take (r .at) bs))
-      × (n .parts ≤ length names) × (words-at (take (r .at) bs) (take (n .parts) names) ≡ named-in [] (looked (seen bs (r .at)) (take (r .at) bs)))
-      × ((k : ℕ) → k < n .parts → getD names k 0 < length (take (r .at) bs))) where
+    × (n .parts ≤ length names) × (words-at (take (r .at) bs) (take (n .parts) names) ≡ named-in [] (looked (seen bs (r .at)) (take (r .at) bs)))
+    × ((k : ℕ) → k < n .parts → getD names k 0 < length (take (r .at) bs))) where
   all-read : r .at ≡ length bs
   all-read = one-reach bs (r .at) (length bs) (subst (λ (l : List ℕ). Reaches l (r .at)) (take-all most-bytes bs short) (reached .reaches)) (reach-text bs t)
 
@@ -103,8 +103,7 @@ module _ (bs : List ℕ) (r : Reach) (n : Found) (tokens names : List ℕ) (reac
   pub taken : Taken bs (take (n .words) tokens) (take (n .parts) names) × (n .words ≤ length bs) × (n .parts ≤ length names)
   unfolding lines
   taken =
-      let f : fine [] (t .0) ≡ true = fine-from bs (t .0) (t .1) no-faults in
-      (
+      let f : fine [] (t .0) ≡ true = fine-from bs (t .0) (t .1) no-faults in (
         record {
           lines = t .0;
           is = t .1;
@@ -121,10 +120,10 @@ module _ (bs : List ℕ) (r : Reach) (n : Found) (tokens names : List ℕ) (reac
               let e : getD (take (n .parts) names) k 0 ≡ getD names k 0 = getD-take (n .parts) names k 0 l in
               let b = w .5 k l in
               let c : length (take (r .at) bs) ≡ length bs = ap length whole in
-              omega arith
+              omega arith;
         },
         omega (arith, w .1, ap length whole),
-        w .3
+        w .3,
       )
 
 -- what is said of the bytes so far, as they are lent

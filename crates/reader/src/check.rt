@@ -14,7 +14,12 @@ use super::types::Refusal;
 
 /// The first fault in the words of bytes; or none, and then how many parts there are, and in `names` where
 /// their names begin. `tokens` are the first bytes of all words; so many bytes count as read.
-pub(crate) fn check(text: &[u8], tokens: &[u64], names: &mut [u64], read: usize) -> Result<usize, Refusal>
+pub(crate) fn check(
+    text: &[u8],
+    tokens: &[u64],
+    names: &mut [u64],
+    read: usize,
+) -> Result<usize, Refusal>
     requires tokens { ⌜ now tokens ≡ startsFrom false 0 (now text) ⌝ }
     requires room { ⌜ length (now tokens) ≤ length (now names) ⌝ }
     ensures { λ r. ⌜ Checked r read (now (text .entry)) (now (names .exit)) ⌝ }

@@ -24,7 +24,10 @@ fn reach_of(text: &[u8], stack: &mut [u64]) -> Reach
 {
     let end = text.len().min(MOST_BYTES);
     match read_text(&text[0..end], stack) {
-        Verdict::Whole => Reach { at: end, whole: true },
+        Verdict::Whole => Reach {
+            at: end,
+            whole: true,
+        },
         Verdict::Bad(at) => Reach { at, whole: false },
     }
 }
@@ -41,7 +44,12 @@ fn seen_of(text: &[u8], at: usize) -> usize
 }
 
 /// The words of bytes that begin a text: their first fault, or where they and the names of the parts begin.
-fn scan_words(begun: &[u8], tokens: &mut [u64], names: &mut [u64], read: usize) -> Result<Found, Refusal>
+fn scan_words(
+    begun: &[u8],
+    tokens: &mut [u64],
+    names: &mut [u64],
+    read: usize,
+) -> Result<Found, Refusal>
     requires tokens { ⌜ length (now begun) ≤ length (now tokens) ⌝ }
     requires names { ⌜ length (now begun) ≤ length (now names) ⌝ }
     ensures { λ r. ⌜ Words r read (now (begun .entry)) (now (tokens .exit)) (now (names .exit)) ⌝ }
@@ -73,7 +81,12 @@ fn last_fault(text: &[u8], reach: Reach) -> Option<Refusal>
 }
 
 /// Whether a text is taken: then where its words and the names of its parts begin; else its first fault.
-pub(crate) fn examine(text: &[u8], stack: &mut [u64], tokens: &mut [u64], names: &mut [u64]) -> Result<Found, Refusal>
+pub(crate) fn examine(
+    text: &[u8],
+    stack: &mut [u64],
+    tokens: &mut [u64],
+    names: &mut [u64],
+) -> Result<Found, Refusal>
     requires stack { ⌜ 2 * length (now text) + 15 ≤ length (now stack) ⌝ }
     requires tokens { ⌜ length (now text) ≤ length (now tokens) ⌝ }
     requires names { ⌜ length (now text) ≤ length (now names) ⌝ }

@@ -3,6 +3,7 @@
 ghost use Prim.Native.Nat.{_+_, _*_, _≤_};
 ghost use lib.ListN.{length};
 ghost use Rattle.reader.specs.Reading.{Read};
+
 mod build;
 mod check;
 mod examine;
@@ -12,6 +13,7 @@ mod spelling;
 mod stack;
 mod tokens;
 pub mod types;
+
 use build::build;
 use examine::examine;
 use types::Counts;
@@ -38,5 +40,12 @@ pub fn read(
     };
     let words = found.words;
     let parts = found.parts;
-    Ok(build(text, &tokens[0..words], &names[0..parts], spots, steps, asked))
+    Ok(build(
+        text,
+        &tokens[0..words],
+        &names[0..parts],
+        spots,
+        steps,
+        asked,
+    ))
 }

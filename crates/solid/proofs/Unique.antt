@@ -21,18 +21,18 @@ short-prop z n a b = λ i. record { size = le-prop (a .size) (b .size) i }
 
 plane-prop : (p : Plane) → IsProp (Fits-plane p)
 plane-prop p a b = λ i. record {
-    a = short-prop _ _ (a .a) (b .a) i;
-    b = short-prop _ _ (a .b) (b .b) i;
-    c = short-prop _ _ (a .c) (b .c) i;
-    d = short-prop _ _ (a .d) (b .d) i;
-    sloped = λ h. ⊥-prop (a .sloped h) (b .sloped h) i
-  }
+  a = short-prop _ _ (a .a) (b .a) i;
+  b = short-prop _ _ (a .b) (b .b) i;
+  c = short-prop _ _ (a .c) (b .c) i;
+  d = short-prop _ _ (a .d) (b .d) i;
+  sloped = λ h. ⊥-prop (a .sloped h) (b .sloped h) i;
+}
 
 pub fits-prop : (s : Shape) → IsProp (Fits s)
 fits-prop s a b = λ i. record {
-    few = le-prop (a .few) (b .few) i;
-    each = λ p h. plane-prop p (a .each p h) (b .each p h) i
-  }
+  few = le-prop (a .few) (b .few) i;
+  each = λ p h. plane-prop p (a .each p h) (b .each p h) i;
+}
 
 pub coded-prop : (ws : List ℕ) → IsProp (Coded ws)
 coded-prop ws a b =
@@ -40,5 +40,5 @@ coded-prop ws a b =
     λ i. record {
       shape = e i;
       is = isProp→PathP (λ j. ws ≡ words (e j)) (λ j. words-set ws (words (e j))) (a .is) (b .is) i;
-      fits = isProp→PathP (λ j. Fits (e j)) (λ j. fits-prop (e j)) (a .fits) (b .fits) i
+      fits = isProp→PathP (λ j. Fits (e j)) (λ j. fits-prop (e j)) (a .fits) (b .fits) i;
     }

@@ -49,10 +49,10 @@ plane a b c d = record { a = a; b = b; c = c; d = d }
 unfoldable pub box : ℤ → ℤ → ℤ → ℤ → ℤ → ℤ → Shape
 box x0 x1 y0 y1 z0 z1 =
     both
-      (both
-        (both (half (plane (pos 1) (pos 0) (pos 0) x1)) (half (plane (negℤ (pos 1)) (pos 0) (pos 0) (negℤ x0))))
-        (both (half (plane (pos 0) (pos 1) (pos 0) y1)) (half (plane (pos 0) (negℤ (pos 1)) (pos 0) (negℤ y0)))))
-      (both (half (plane (pos 0) (pos 0) (pos 1) z1)) (half (plane (pos 0) (pos 0) (negℤ (pos 1)) (negℤ z0))))
+    (both
+    (both (half (plane (pos 1) (pos 0) (pos 0) x1)) (half (plane (negℤ (pos 1)) (pos 0) (pos 0) (negℤ x0))))
+    (both (half (plane (pos 0) (pos 1) (pos 0) y1)) (half (plane (pos 0) (negℤ (pos 1)) (pos 0) (negℤ y0)))))
+    (both (half (plane (pos 0) (pos 0) (pos 1) z1)) (half (plane (pos 0) (pos 0) (negℤ (pos 1)) (negℤ z0))))
 
 -- everything within reach
 unfoldable pub workshop : Shape

@@ -35,7 +35,7 @@ numbered-plane n =
       a = lowered slope-limit (n % span slope-limit);
       b = lowered slope-limit (n / span slope-limit % span slope-limit);
       c = lowered slope-limit (n / span slope-limit / span slope-limit % span slope-limit);
-      d = lowered offset-limit (n / span slope-limit / span slope-limit / span slope-limit % span offset-limit)
+      d = lowered offset-limit (n / span slope-limit / span slope-limit / span slope-limit % span offset-limit);
     }
 
 unfoldable pub word : Step → ℕ

@@ -5,10 +5,10 @@ ghost use Prim.Native.Nat.{_+_, _*_, _≤_, _<_};
 ghost use Rattle.arith.specs.Bounds.{Short};
 ghost use Rattle.plane.specs.Limits.{slope-limit, offset-limit, Fits-plane};
 ghost use Rattle.solid.specs.Steps.{span, raised, lowered, plane-number, numbered-plane, word, step, Fits-step};
-use plane::types::OFFSET_LIMIT;
-use plane::types::SLOPE_LIMIT;
 use super::types::Step;
+use plane::types::OFFSET_LIMIT;
 use plane::types::Plane;
+use plane::types::SLOPE_LIMIT;
 
 /// How many slopes there are.
 const SLOPES: u64 = 2 * SLOPE_LIMIT + 1;

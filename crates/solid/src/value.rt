@@ -12,12 +12,12 @@ ghost use Rattle.solid.specs.Steps.{words, Fits-step, Coded};
 ghost use Rattle.solid.specs.Stacks.{after, plane-of-step, Enough, Stacked, Values-at};
 ghost use Rattle.solid.specs.Examples.{on-some, told};
 use super::steps::step_of;
-use plane::types::REACH;
 use super::types::Step;
 use super::types::Told;
 use plane::sides::side_of;
 use plane::types::Place;
 use plane::types::Plane;
+use plane::types::REACH;
 use plane::types::Side;
 
 /// Whether the place is below the plane.

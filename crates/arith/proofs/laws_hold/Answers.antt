@@ -4,7 +4,9 @@ use Rattle.arith.proofs.Order.{mul-positive, mul-neg-neg, mul-neg-pos, mul-le,
 use Rattle.arith.proofs.laws_hold.Needs as need
 
 pub returns : need.returns
-returns c = record { told = refl; laws = record {
+returns c = record {
+  told = refl;
+  laws = record {
     associative = *ℤ-assoc;
     distributive = distr;
     negative = neg-*l;
@@ -13,4 +15,6 @@ returns c = record { told = refl; laws = record {
     product-of-unlike = mul-neg-pos;
     scaled = mul-le;
     cancelled = cancel-le;
-    no-zero-divisor = cancel-zero } }
+    no-zero-divisor = cancel-zero;
+  };
+}

@@ -38,10 +38,10 @@ loop-k-again-then-at-read c =
     let p = getD (c .args .tokens .now) (c .loop-k .k) 0 in
     let n : length (c .token-at-word .result .now) ≡ length (tokAt (drop p bs)) = ap length (c .token-at-word .ensures) in
     let e : whole (c .args .read) (token p (tokAt (drop p bs))) ≡ false =
-        elim (c .then-at-read .came) [
-          | then-at-read·by·then-at-read w ↦ unread p (c .args .read) _ _ n .0 (w .if-at-read .taken)
-          | then-at-read·by·else-at-read·then-read-at w ↦ unread p (c .args .read) _ _ n .1 (w .if-at-read .left) (w .if-read-at .taken)
-        ] in
+    elim (c .then-at-read .came) [
+      | then-at-read·by·then-at-read w ↦ unread p (c .args .read) _ _ n .0 (w .if-at-read .taken)
+      | then-at-read·by·else-at-read·then-read-at w ↦ unread p (c .args .read) _ _ n .1 (w .if-at-read .left) (w .if-read-at .taken)
+    ] in
     (turn-skip bs (c .args .read) (c .loop-k .names) (c .loop-k .parts) (c .loop-k .expect) (c .args .tokens .now) (c .loop-k .k) (c .loop-k-test .taken) (c .loop-k .inv .0) e, omega arith, c .loop-k .inv .2)
 
 pub look-requires : need.look-requires
@@ -94,26 +94,26 @@ loop-k-again c =
     let l = said bs (c .loop-k .names) (c .token-at-word .result .now) (c .loop-k .parts) p (c .loop-k .expect) (Next (c .in-Next .next)) (c .token-at-word .ensures) (c .in-Next .ensures tt) in
     let room : c .loop-k .parts < length (c .loop-k .names) = omega (arith, c .loop-k .inv .1, c .loop-k .inv .2) in
     let P : List ℕ → ℕ → Expect → Type 0 = λ ns n e.
-        Scanned bs (c .args .read) ns n e (drop (c .loop-k .k + 1) (c .args .tokens .now)) × (n ≤ c .loop-k .k + 1) × (length ns ≡ length (c .args .names .now)) in
+    Scanned bs (c .args .read) ns n e (drop (c .loop-k .k + 1) (c .args .tokens .now)) × (n ≤ c .loop-k .k + 1) × (length ns ≡ length (c .args .names .now)) in
     let turn : (ns : List ℕ) (n : ℕ) → words-at bs (take n ns) ≡ with-name (c .loop-k .expect) (words-at bs (take (c .loop-k .parts) (c .loop-k .names))) (tokAt (drop p bs)) →
-            ((j : ℕ) → j < n → getD ns j 0 < length bs) → Scanned bs (c .args .read) ns n (c .in-Next .next) (drop (c .loop-k .k + 1) (c .args .tokens .now)) =
-        λ ns n e i. turn-next bs (c .args .read) (c .loop-k .names) (c .loop-k .parts) (c .loop-k .expect) (c .args .tokens .now) (c .loop-k .k) (c .loop-k-test .taken) (c .loop-k .inv .0) (c .in-Next .next) ns n g l e i in
+    ((j : ℕ) → j < n → getD ns j 0 < length bs) → Scanned bs (c .args .read) ns n (c .in-Next .next) (drop (c .loop-k .k + 1) (c .args .tokens .now)) =
+    λ ns n e i. turn-next bs (c .args .read) (c .loop-k .names) (c .loop-k .parts) (c .loop-k .expect) (c .args .tokens .now) (c .loop-k .k) (c .loop-k-test .taken) (c .loop-k .inv .0) (c .in-Next .next) ns n g l e i in
     elim (c .match-expect .came) [
       | in-AtNewName w ↦
           subst₃ P (sym (w .names-is)) (sym (w .parts-is)) (sym (w .expect-is)) (
             turn (set (c .loop-k .names) (c .loop-k .parts) p) (c .loop-k .parts + 1)
-              (name-put bs (c .loop-k .names) (c .loop-k .parts) p room
-                  ∙ ap (λ (x : Expect). with-name x (words-at bs (take (c .loop-k .parts) (c .loop-k .names))) (tokAt (drop p bs))) (sym (w .in-AtNewName .is)))
-              (names-put (c .loop-k .names) (c .loop-k .parts) p (length bs) room
-                  (starts-inside bs (c .args .tokens .now) (c .loop-k .k) (c .pre .tokens) (c .loop-k-test .taken)) (c .loop-k .inv .0 .inside)),
+                (name-put bs (c .loop-k .names) (c .loop-k .parts) p room
+                ∙ ap (λ (x : Expect). with-name x (words-at bs (take (c .loop-k .parts) (c .loop-k .names))) (tokAt (drop p bs))) (sym (w .in-AtNewName .is)))
+                (names-put (c .loop-k .names) (c .loop-k .parts) p (length bs) room
+                (starts-inside bs (c .args .tokens .now) (c .loop-k .k) (c .pre .tokens) (c .loop-k-test .taken)) (c .loop-k .inv .0 .inside)),
             omega (arith, c .loop-k .inv .1),
-            length-set (c .loop-k .names) (c .loop-k .parts) p ∙ c .loop-k .inv .2
+            length-set (c .loop-k .names) (c .loop-k .parts) p ∙ c .loop-k .inv .2,
           )
       | in-rest w ↦
           subst₃ P (sym (w .names-is)) (sym (w .parts-is)) (sym (w .expect-is)) (
             turn (c .loop-k .names) (c .loop-k .parts) (names-kept (c .loop-k .expect) _ _ (w .in-rest .not-AtNewName)) (c .loop-k .inv .0 .inside),
             omega (arith, c .loop-k .inv .1),
-            c .loop-k .inv .2
+            c .loop-k .inv .2,
           )
     ]
 

@@ -30,4 +30,4 @@ returns-then-left-eq0 c =
     let l : length ns ≡ length (c .args .names .now) = simp length-map in
     let e : c .args .expect ≡ InBox 0 = c .in-InBox .is ∙ ap (λ (k : ℕ). InBox k) (c .if-left-eq0 .taken) in
     subst (λ (x : Expect). Looked (c .look-line-then-left-eq0 .result) x ns (token (c .args .at) (c .args .word .now))) (sym e)
-        (over (c .look-line-then-left-eq0 .result) ns _ (c .look-line-then-left-eq0 .ensures ns l))
+    (over (c .look-line-then-left-eq0 .result) ns _ (c .look-line-then-left-eq0 .ensures ns l))

@@ -17,9 +17,10 @@ returns-then-is-no-scale c = λ names ts.
 pub returns-then-left-eq0 : need.returns-then-left-eq0
 returns-then-left-eq0 c = λ names ts.
     let t = token (c .args .at) (c .args .word .now) in
-    let z : c .args .left ≡ 0 = omega arith in
-    (ap (λ (k : ℕ). scan names (replicate k measure ++ scale ∷ []) (t ∷ ts)) z ∙ scale-right names t ts (sym (c .if-is-no-scale .ensures tt)),
-        ap (λ (k : ℕ). named-in (replicate k measure ++ scale ∷ []) (t ∷ ts)) z)
+    let z : c .args .left ≡ 0 = omega arith in (
+      ap (λ (k : ℕ). scan names (replicate k measure ++ scale ∷ []) (t ∷ ts)) z ∙ scale-right names t ts (sym (c .if-is-no-scale .ensures tt)),
+      ap (λ (k : ℕ). named-in (replicate k measure ++ scale ∷ []) (t ∷ ts)) z,
+    )
 
 pub returns-then-is-beyond : need.returns-then-is-beyond
 returns-then-is-beyond c = λ names ts.
@@ -31,6 +32,7 @@ pub returns : need.returns
 returns c = λ names ts.
     let t = token (c .args .at) (c .args .word .now) in
     let h : 0 < c .args .left = omega arith in
-    let e = one-of (c .args .left) h in
-    (ap (λ (rs : List Role). scan names (rs ++ scale ∷ []) (t ∷ ts)) e ∙ number-right names t ts _ (sym (c .if-is-beyond .ensures tt)),
-        ap (λ (rs : List Role). named-in (rs ++ scale ∷ []) (t ∷ ts)) e)
+    let e = one-of (c .args .left) h in (
+      ap (λ (rs : List Role). scan names (rs ++ scale ∷ []) (t ∷ ts)) e ∙ number-right names t ts _ (sym (c .if-is-beyond .ensures tt)),
+      ap (λ (rs : List Role). named-in (rs ++ scale ∷ []) (t ∷ ts)) e,
+    )

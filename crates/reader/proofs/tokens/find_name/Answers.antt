@@ -17,7 +17,7 @@ returns-then-eq c =
     let w = c .args .word .now in
     let s = same-from (c .token-at .result .now) w (c .eq .result) (matches-decides (c .token-at .result .now) w (c .eq .result) (c .eq .ensures)) in
     let e : same w (tokAt (drop (getD (c .args .names .now) (c .loop-i .i) 0) (c .args .text .now))) ≡ true =
-        ap (same w) (sym (c .token-at .ensures)) ∙ s ∙ c .if-eq .taken in
+    ap (same w) (sym (c .token-at .ensures)) ∙ s ∙ c .if-eq .taken in
     sym (c .loop-i .inv ∙ rank-here (c .args .text .now) (c .args .names .now) w (c .loop-i .i) (c .loop-i-test .taken) e)
 
 pub loop-i-again : need.loop-i-again
@@ -25,7 +25,7 @@ loop-i-again c =
     let w = c .args .word .now in
     let s = same-from (c .token-at .result .now) w (c .eq .result) (matches-decides (c .token-at .result .now) w (c .eq .result) (c .eq .ensures)) in
     let e : same w (tokAt (drop (getD (c .args .names .now) (c .loop-i .i) 0) (c .args .text .now))) ≡ false =
-        ap (same w) (sym (c .token-at .ensures)) ∙ s ∙ c .if-eq .left in
+    ap (same w) (sym (c .token-at .ensures)) ∙ s ∙ c .if-eq .left in
     c .loop-i .inv ∙ rank-later (c .args .text .now) (c .args .names .now) w (c .loop-i .i) (c .loop-i-test .taken) e
 
 pub returns : need.returns

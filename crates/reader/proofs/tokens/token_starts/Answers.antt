@@ -46,6 +46,6 @@ loop-i-again c =
 
 pub returns : need.returns
 returns c = record {
-    most = omega (arith, c .loop-i .inv .2);
-    are = starts-end (c .args .text .now) _ (c .loop-i .inside) (c .loop-i .i) (c .loop-i-test .left) (c .loop-i .inv .0)
-  }
+  most = omega (arith, c .loop-i .inv .2);
+  are = starts-end (c .args .text .now) _ (c .loop-i .inside) (c .loop-i .i) (c .loop-i-test .left) (c .loop-i .inv .0);
+}

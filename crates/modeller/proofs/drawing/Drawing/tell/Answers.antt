@@ -13,7 +13,7 @@ returns-then-k-counts c =
     let self = c .args .self .now in
     let d = subst (λ (s : State). ∥ Drawn s (self .text .now) (self .steps .now) (self .asked .now) ∥₁) (c .in-Taken .is) (self .read) in
     subst (λ (s : State). Replied s (self .text .now) (length (c .args .work .now)) (c .args .k) NoQuestion) (sym (c .in-Taken .is))
-        (reply-none (c .in-Taken .counts) (self .text .now) (self .steps .now) (self .asked .now) d (length (c .args .work .now)) (c .args .k) (c .if-work-lt-WORK-NEEDED .left) (c .if-k-counts .taken))
+    (reply-none (c .in-Taken .counts) (self .text .now) (self .steps .now) (self .asked .now) d (length (c .args .work .now)) (c .args .k) (c .if-work-lt-WORK-NEEDED .left) (c .if-k-counts .taken))
 
 pub place-reply-requires : need.place-reply-requires
 place-reply-requires c κs =
@@ -21,7 +21,7 @@ place-reply-requires c κs =
     let d = subst (λ (s : State). ∥ Drawn s (self .text .now) (self .steps .now) (self .asked .now) ∥₁) (c .in-Taken .is) (self .read) in
     record {
       ready = drawn-ready (c .in-Taken .counts) (self .text .now) (self .steps .now) (self .asked .now) d (c .args .k) (c .if-k-counts .left);
-      room = c .if-work-lt-WORK-NEEDED .left
+      room = c .if-work-lt-WORK-NEEDED .left;
     }
 
 pub returns : need.returns
@@ -29,5 +29,5 @@ returns c =
     let self = c .args .self .now in
     let d = subst (λ (s : State). ∥ Drawn s (self .text .now) (self .steps .now) (self .asked .now) ∥₁) (c .in-Taken .is) (self .read) in
     subst (λ (s : State). Replied s (self .text .now) (length (c .args .work .now)) (c .args .k) (c .place-reply .result)) (sym (c .in-Taken .is))
-        (reply-place (c .in-Taken .counts) (self .text .now) (self .steps .now) (self .asked .now) d (length (c .args .work .now)) (c .args .k) (c .place-reply .result)
-          (c .if-work-lt-WORK-NEEDED .left) (c .if-k-counts .left) (c .place-reply .ensures))
+    (reply-place (c .in-Taken .counts) (self .text .now) (self .steps .now) (self .asked .now) d (length (c .args .work .now)) (c .args .k) (c .place-reply .result)
+    (c .if-work-lt-WORK-NEEDED .left) (c .if-k-counts .left) (c .place-reply .ensures))
