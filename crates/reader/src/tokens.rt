@@ -79,7 +79,7 @@ pub(crate) fn minus(v: u64) -> i64
 }
 
 /// The number that stands at a byte, if it is in range.
-pub fn number_at(text: &[u8], at: usize) -> Option<i64>
+pub(crate) fn number_at(text: &[u8], at: usize) -> Option<i64>
     requires { ⌜ at < length (now text) ⌝ }
     ensures { λ r. ⌜ ((z : ℤ) → tokAt (drop at (now (text .entry))) ≡ signed z → Value r z) ⌝ }
 {
