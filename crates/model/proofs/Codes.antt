@@ -4,6 +4,7 @@ use mathlib.Core.List.{List, [], _∷_, _++_, map}
 use Prim.Native.Nat.{ℕ, zero, suc, _+_, _*_, _/_, _%_, _≤_, _<_, _^_}
 use native.Mathlib.Omega.{arith}
 use native.Mathlib.Nat.{mul-suc}
+use lib.Dec.{T, leb, leb→le}
 use lib.IntN.{ℤ}
 use lib.ListN.{length, getD, length-append}
 use lib.Signed.{mag}
@@ -51,27 +52,27 @@ pub w-small : (qs : List Place) → All In-range-place (map wire-place qs) → A
 w-small [] h = tt
 w-small (q ∷ qs) h = (h .0 .w .sfits, w-small qs (h .1))
 
--- what fits 8 or 32 bits fits 64
-fits-wide-8 : (z : ℤ) → SFits w8 z → SFits w64 z
-fits-wide-8 z s = let h : mag z < 2 ^ 7 = s .sfits in record { sfits = omega arith }
+-- what fits fewer bits fits 64
+pub fits-64 : {w : Width} {z : ℤ} → SFits w z → T (leb (2 ^ hbits w) (2 ^ 63)) → SFits w64 z
+fits-64 {w} {z} s t = let h : mag z < 2 ^ hbits w = s .sfits in let k : 2 ^ hbits w ≤ 2 ^ 63 = leb→le (2 ^ hbits w) (2 ^ 63) t in record { sfits = omega arith }
 
-fits-wide-32 : (z : ℤ) → SFits w32 z → SFits w64 z
-fits-wide-32 z s = let h : mag z < 2 ^ 31 = s .sfits in record { sfits = omega arith }
+-- a number cast down from 64 bits, and up to them
+narrowed : (w : Width) {z : ℤ} → SFits w z → T (leb (2 ^ hbits w) (2 ^ 63)) → toZ w (ofZ w (toZ w64 (ofZ w64 z))) ≡ z
+narrowed w s t = ap (λ (x : ℤ). toZ w (ofZ w x)) (toZ-ofZ (fits-64 s t)) ∙ toZ-ofZ s
 
--- a number of 64 bits, cast down
-narrowed : (w : Width) (z : ℤ) → SFits w z → SFits w64 z → toZ w (ofZ w (toZ w64 (ofZ w64 z))) ≡ z
-narrowed w z s t = ap (λ (x : ℤ). toZ w (ofZ w x)) (toZ-ofZ t) ∙ toZ-ofZ s
+pub widened : (w : Width) {z : ℤ} → SFits w z → T (leb (2 ^ hbits w) (2 ^ 63)) → toZ w64 (ofZ w64 (toZ w (ofZ w z))) ≡ z
+widened w s t = ap (λ (x : ℤ). toZ w64 (ofZ w64 x)) (toZ-ofZ s) ∙ toZ-ofZ (fits-64 s t)
 
 pub one-byte : {k : List ℕ} (z : ℤ) → SFits w8 z → k ≡ ofZ w8 (toZ w8 (ofZ w8 (toZ w64 (ofZ w64 z)))) ∷ [] → k ≡ signed-bytes w8 z
 unfolding signed-bytes
 one-byte z s e =
     let f : ofZ w8 z < 256 = fits-ofZ s .fits in
     let g : ofZ w8 z ≡ ofZ w8 z % 256 = omega arith in
-    e ∙ ap (λ (x : ℤ). ofZ w8 x ∷ []) (narrowed w8 z s (fits-wide-8 z s)) ∙ ap (λ (n : ℕ). n ∷ []) g
+    e ∙ ap (λ (x : ℤ). ofZ w8 x ∷ []) (narrowed w8 s tt) ∙ ap (λ (n : ℕ). n ∷ []) g
 
 pub four-bytes : {k : List ℕ} (z : ℤ) → SFits w32 z → (let n = ofZ w32 (toZ w32 (ofZ w32 (toZ w64 (ofZ w64 z)))) in k ≡ (n % 256) ∷ from-weight 3 256 n) → k ≡ signed-bytes w32 z
 unfolding signed-bytes
-four-bytes z s e = e ∙ sym (by-weight 3 _) ∙ ap (signed-bytes w32) (narrowed w32 z s (fits-wide-32 z s))
+four-bytes z s e = e ∙ sym (by-weight 3 _) ∙ ap (signed-bytes w32) (narrowed w32 s tt)
 
 -- a plane's bytes, put together
 pub plane-made : (p : Plane) {k l m n : List ℕ} → k ≡ signed-bytes w8 (p .a) → l ≡ signed-bytes w8 (p .b) → m ≡ signed-bytes w8 (p .c) → n ≡ signed-bytes w32 (p .d) →

@@ -1,11 +1,11 @@
 -- Numbers and their bytes, the lowest first.
-use mathlib.Core.Path.{_≡_, refl, sym, ap, _∙_, subst}
-use mathlib.Core.List.{List, [], _∷_}
+use mathlib.Core.Path.{_≡_, refl, sym, ap, ap₂, _∙_, subst}
+use mathlib.Core.List.{List, [], _∷_, _++_}
 use Prim.Native.Nat.{ℕ, zero, suc, _+_, _*_, _/_, _%_, _≤_, _<_, _^_}
 use native.Mathlib.Omega.{arith}
-use native.Mathlib.Nat.{div-div-eq-div-mul, pow-suc, mul-le-mul-right, zero-add}
+use native.Mathlib.Nat.{div-div-eq-div-mul, pow-suc, mul-assoc, add-zero}
 use lib.ListN.{length, getD, take, drop}
-use lib.Seq.{getD-drop, getD-take, drop-cons}
+use lib.Seq.{getD-drop, length-take-le, take-suc, take-all}
 use mir.Syntax.{w8}
 use mir.Val.{Fits}
 use Rattle.std.proofs.shelf.Bits.{div-below}
@@ -17,6 +17,21 @@ Bytes l = (i : ℕ) → Fits w8 (getD l i 0)
 
 pub bytes-drop : (n : ℕ) (l : List ℕ) → Bytes l → Bytes (drop n l)
 bytes-drop n l h i = subst (λ (x : ℕ). Fits w8 x) (sym (getD-drop n l i 0)) (h (n + i))
+
+pub bytes-take : (n : ℕ) (l : List ℕ) → Bytes l → Bytes (take n l)
+bytes-take zero l h i = record { fits = omega arith }
+bytes-take (suc n) [] h i = h i
+bytes-take (suc n) (x ∷ l) h zero = h zero
+bytes-take (suc n) (x ∷ l) h (suc i) = bytes-take n l (λ j. h (suc j)) i
+
+pub bytes-append : (k l : List ℕ) → Bytes k → Bytes l → Bytes (k ++ l)
+bytes-append [] l g h i = h i
+bytes-append (x ∷ k) l g h zero = g zero
+bytes-append (x ∷ k) l g h (suc i) = bytes-append k l (λ j. g (suc j)) h i
+
+pub bytes-tail : (k l : List ℕ) → Bytes (k ++ l) → Bytes l
+bytes-tail [] l h = h
+bytes-tail (x ∷ k) l h = bytes-tail k l (λ i. h (suc i))
 
 -- the number that bytes write
 abbrev pub value : List ℕ → ℕ
@@ -64,13 +79,31 @@ low-first-from (suc k) w n =
 pub by-weight : (k n : ℕ) → low-first (suc k) n ≡ (n % 256) ∷ from-weight k 256 n
 by-weight k n = ap (λ (x : List ℕ). (n % 256) ∷ x) (low-first-from k 256 n)
 
--- the k elements from i on
-abbrev pub reads : ℕ → ℕ → List ℕ → List ℕ
-reads zero i l = []
-reads (suc k) i l = getD l i 0 ∷ reads k (suc i) l
+value-append : (xs ys : List ℕ) → value (xs ++ ys) ≡ value xs + value ys * 256 ^ length xs
+value-append [] ys = omega arith
+value-append (x ∷ xs) ys =
+    let e : 256 ^ suc (length xs) ≡ 256 ^ length xs * 256 = pow-suc 256 (length xs) in
+    let m : value ys * (256 ^ length xs * 256) ≡ (value ys * 256 ^ length xs) * 256 = sym (mul-assoc (value ys) (256 ^ length xs) 256) in
+    let r : value (xs ++ ys) ≡ value xs + value ys * 256 ^ length xs = value-append xs ys in
+    let z : value ys * 256 ^ suc (length xs) ≡ (value ys * 256 ^ length xs) * 256 = ap (λ (n : ℕ). value ys * n) e ∙ m in
+    omega arith
 
-reads-taken : (k i : ℕ) (l : List ℕ) → i + k ≤ length l → reads k i l ≡ take k (drop i l)
-reads-taken zero i l h = refl
-reads-taken (suc k) i l h =
-    ap (λ (x : List ℕ). getD l i 0 ∷ x) (reads-taken k (suc i) l (omega arith)) ∙ ap (take (suc k)) (sym (drop-cons l i 0 (omega arith)))
+-- the number of the bytes from the first to that at k, each times its weight
+abbrev pub weighed : ℕ → List ℕ → ℕ
+weighed zero bs = getD bs 0 0
+weighed (suc k) bs = weighed k bs + getD bs (suc k) 0 * 256 ^ suc k
 
+weighed-taken : (k : ℕ) (bs : List ℕ) → k < length bs → weighed k bs ≡ value (take (suc k) bs)
+weighed-taken zero [] h = absurd (omega arith)
+weighed-taken zero (b ∷ bs) h = omega arith
+weighed-taken (suc k) bs h =
+    let b = getD bs (suc k) 0 in
+    let l : length (take (suc k) bs) ≡ suc k = length-take-le (suc k) bs (omega arith) in
+    let e : value (take (suc k) bs ++ b ∷ []) ≡ value (take (suc k) bs) + (b + 256 * 0) * 256 ^ length (take (suc k) bs) = value-append (take (suc k) bs) (b ∷ []) in
+    let z : (b + 256 * 0) * 256 ^ length (take (suc k) bs) ≡ b * 256 ^ suc k = ap₂ (λ (m n : ℕ). m * 256 ^ n) (add-zero b) l in
+    ap (λ (n : ℕ). n + b * 256 ^ suc k) (weighed-taken k bs (omega arith))
+    ∙ sym (e ∙ ap (λ (n : ℕ). value (take (suc k) bs) + n) z)
+    ∙ ap value (sym (take-suc bs (suc k) 0 h))
+
+pub weighed-all : (k : ℕ) (bs : List ℕ) → length bs ≡ suc k → weighed k bs ≡ value bs
+weighed-all k bs h = weighed-taken k bs (omega arith) ∙ ap value (take-all (suc k) bs (omega arith))

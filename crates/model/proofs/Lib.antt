@@ -1,3 +1,6 @@
 pub mod Digits
+pub mod Coding
 pub mod Codes
+pub mod Decodes
+pub mod Things
 pub mod Writes

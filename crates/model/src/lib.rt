@@ -1,4 +1,5 @@
 //! Models as bytes, low byte first: written, read, and measured.
 
+pub mod read;
 pub mod types;
 pub mod write;
