@@ -35,7 +35,7 @@ pub length-place : (q : Wire-place) → length (place-bytes q) ≡ 32
 unfolding place-bytes signed-bytes
 length-place q = refl
 
-length-joined : {X : Type 0} (f : X → List ℕ) (k : ℕ) → ((x : X) → length (f x) ≡ k) → (xs : List X) → length (joined f xs) ≡ k * length xs
+pub length-joined : {X : Type 0} (f : X → List ℕ) (k : ℕ) → ((x : X) → length (f x) ≡ k) → (xs : List X) → length (joined f xs) ≡ k * length xs
 length-joined f k h [] = omega arith
 length-joined f k h (x ∷ xs) =
     length-append (f x) (joined f xs) ∙ ap (λ (n : ℕ). n + length (joined f xs)) (h x) ∙ ap (λ (n : ℕ). k + n) (length-joined f k h xs) ∙ one-more (length xs)

@@ -69,29 +69,51 @@ code-count w =
     }
 
 -- things that stand for others
-pub code-as : {X Y : Type 0} {f : X → List ℕ} {R : X → Type 0} {n : ℕ} (g : Y → List ℕ) (S : Y → Type 0) (to : Y → X) (back : X → Y) → Code f R n →
-    ((y : Y) → g y ≡ f (to y)) → ((y : Y) → S y → R (to y)) → ((x : X) → R x → S (back x)) → ((y : Y) → S y → back (to y) ≡ y) → ((x : X) → R x → to (back x) ≡ x) → Code g S n
-code-as {X} {Y} {f} {R} {n} g S to back k is into out again over =
+pub record As {X Y : Type 0} (f : X → List ℕ) (R : X → Type 0) (g : Y → List ℕ) (S : Y → Type 0) : Type 0 where
+  pub to : Y → X
+  pub back : X → Y
+  pub are : (y : Y) → g y ≡ f (to y)
+  pub into : (y : Y) → S y → R (to y)
+  pub out : (x : X) → R x → S (back x)
+  pub again : (y : Y) → S y → back (to y) ≡ y
+  pub over : (x : X) → R x → to (back x) ≡ x
+
+pub as-back : {X Y : Type 0} {f : X → List ℕ} {R : X → Type 0} {g : Y → List ℕ} {S : Y → Type 0} (a : As f R g S) (x : X) → R x → f x ≡ g (a .back x)
+as-back {f = f} a x h = ap f (sym (a .over x h)) ∙ sym (a .are (a .back x))
+
+pub code-as : {X Y : Type 0} {f : X → List ℕ} {R : X → Type 0} {g : Y → List ℕ} {S : Y → Type 0} {n : ℕ} → As f R g S → Code f R n → Code g S n
+code-as {n = n} a k =
     record {
       apart = λ x y r s hx hy e.
-        let p = k .apart (to x) (to y) r s (into x hx) (into y hy) (ap (λ (a : List ℕ). a ++ r) (sym (is x)) ∙ e ∙ ap (λ (a : List ℕ). a ++ s) (is y)) in
-        (sym (again x hx) ∙ ap back (p .0) ∙ again y hy, p .1);
+        let p = k .apart (a .to x) (a .to y) r s (a .into x hx) (a .into y hy) (ap (λ (l : List ℕ). l ++ r) (sym (a .are x)) ∙ e ∙ ap (λ (l : List ℕ). l ++ s) (a .are y)) in
+        (sym (a .again x hx) ∙ ap (a .back) (p .0) ∙ a .again y hy, p .1);
       reads = λ l b h.
         let p = k .reads l b h in
-        let e : f (p .thing) ≡ g (back (p .thing)) = ap f (sym (over (p .thing) (p .range))) ∙ sym (is (back (p .thing))) in
+        let e = as-back a (p .thing) (p .range) in
         record {
-          thing = back (p .thing);
-          range = out (p .thing) (p .range);
+          thing = a .back (p .thing);
+          range = a .out (p .thing) (p .range);
           rest = p .rest;
-          is = p .is ∙ ap (λ (a : List ℕ). a ++ p .rest) e;
-          short = subst (λ (a : List ℕ). length a ≤ n) e (p .short)
+          is = p .is ∙ ap (λ (x : List ℕ). x ++ p .rest) e;
+          short = subst (λ (x : List ℕ). length x ≤ n) e (p .short)
         }
     }
 
 pub code-signed : (w : Width) → Code (signed-bytes w) (SFits w) (bytes w)
 unfolding signed-bytes count-bytes
-code-signed w =
-    code-as (signed-bytes w) (SFits w) (ofZ w) (toZ w) (code-count w) (λ z. refl) (λ z h. fits-ofZ h .fits) (λ n h. sfits-toZ (record { fits = h })) (λ z h. toZ-ofZ h) (λ n h. ofZ-toZ (record { fits = h }))
+code-signed w = code-as two-complement (code-count w)
+  where
+    two-complement : As (count-bytes w) (λ (n : ℕ). n < 2 ^ bits w) (signed-bytes w) (SFits w)
+    two-complement =
+        record {
+          to = ofZ w;
+          back = toZ w;
+          are = λ z. refl;
+          into = λ z h. fits-ofZ h .fits;
+          out = λ n h. sfits-toZ (record { fits = h });
+          again = λ z h. toZ-ofZ h;
+          over = λ n h. ofZ-toZ (record { fits = h })
+        }
 
 -- one thing behind another
 abbrev pub both : {X Y : Type 0} → (X → List ℕ) → (Y → List ℕ) → X × Y → List ℕ
