@@ -5,4 +5,5 @@ pub mod Decodes
 pub mod Things
 pub mod Standing
 pub mod Finding
+pub mod Ends
 pub mod Writes

@@ -1,3 +1,4 @@
 pub mod Wire
 pub mod Format
 pub mod Finds
+pub mod Extents

@@ -1,0 +1,57 @@
+//! How far a model reaches in bytes that may be anything.
+
+ghost use mathlib.Core.Path.{_≡_};
+ghost use Prim.Native.Nat.{_+_, _<_, _≤_, _^_};
+ghost use lib.ListN.{length};
+ghost use mir.Syntax.{w32};
+ghost use Rattle.std.specs.shelf.Lists.{All};
+ghost use Rattle.model.specs.Wire.{In-range-piece, In-range-face};
+ghost use Rattle.model.specs.Format.{listed, piece-bytes, face-bytes};
+ghost use Rattle.model.specs.Finds.{Found, Skipped, List-ends};
+ghost use Rattle.model.specs.Extents.{Measured};
+use super::read::long_at;
+use super::read::short_at;
+use super::types::Extent;
+use super::types::Layout;
+
+/// Where n bytes from `at` on end.
+fn skip(model: &[u8], at: usize, n: usize) -> Option<usize>
+    requires there { ⌜ at ≤ length (now model) ⌝ }
+    ensures { λ r. ⌜ Skipped (now (model .entry)) at n r ⌝ }
+{
+    if n <= model.len() - at {
+        Some(at + n)
+    } else {
+        None
+    }
+}
+
+/// Where a list ends whose number stands at `at`, of things of `size` bytes each.
+fn list_end(model: &[u8], at: usize, size: usize) -> Option<usize>
+    requires there { ⌜ at ≤ length (now model) ⌝ }
+    requires small { ⌜ size ≤ 32 ⌝ }
+    ensures { λ r. ⌜ List-ends (now (model .entry)) at size r ⌝ }
+{
+    let begin = skip(model, at, 2)?;
+    skip(model, begin, size * short_at(model, at))
+}
+
+/// Where the piece ends that stands at `at`.
+pub fn piece_end(model: &[u8], at: usize) -> Option<usize>
+    requires there { ⌜ at ≤ length (now model) ⌝ }
+    ensures { λ r. ⌜ Found piece-bytes In-range-piece (now (model .entry)) at r ⌝ }
+{
+    let place = list_end(model, at, 7)?;
+    skip(model, place, 32)
+}
+
+/// Where the face ends that stands at `at`.
+pub fn face_end(model: &[u8], at: usize) -> Option<usize>
+    requires there { ⌜ at ≤ length (now model) ⌝ }
+    ensures { λ r. ⌜ Found face-bytes In-range-face (now (model .entry)) at r ⌝ }
+{
+    let edges = skip(model, at, 7)?;
+    let place = list_end(model, edges, 7)?;
+    let corners = skip(model, place, 32)?;
+    list_end(model, corners, 32)
+}
