@@ -14,6 +14,7 @@ use Rattle.std.proofs.shelf.Lists.{take-at, drop-at}
 use Rattle.std.specs.Joined.{joined}
 use Rattle.std.specs.shelf.Lists.{All}
 use Rattle.model.specs.Format.{low-first, count-bytes, signed-bytes, listed}
+use Rattle.model.specs.Finds.{Few}
 use Rattle.model.proofs.Digits.{Bytes, value, length-low-first, value-low-first, low-first-value, value-below, bytes-take, bytes-tail}
 
 -- l begins with a thing in range, of at most n bytes
@@ -163,10 +164,6 @@ just p = record { thing = p .thing; range = refl; rest = p .rest; is = p .is; sh
 -- n things in range
 abbrev pub Many : {X : Type 0} → (X → Type 0) → ℕ → List X → Type 0
 Many R n xs = (length xs ≡ n) × All R xs
-
--- things in range whose number fits
-abbrev pub Few : {X : Type 0} → (X → Type 0) → Width → List X → Type 0
-Few R w xs = (length xs < 2 ^ bits w) × All R xs
 
 module _ {X : Type 0} {f : X → List ℕ} {R : X → Type 0} {k : ℕ} (j : Code f R k) where
   pub apart-joined : (xs ys : List X) (r s : List ℕ) → length xs ≡ length ys → All R xs → All R ys → joined f xs ++ r ≡ joined f ys ++ s → (xs ≡ ys) × (r ≡ s)

@@ -4,27 +4,40 @@ use mathlib.Core.List.{List}
 use mathlib.Core.Logic.{_⊎_, inl, inr}
 use Prim.Native.Nat.{ℕ, _+_, _*_, _≤_, _<_, _^_}
 use lib.ListN.{length}
-use mir.Syntax.{w16}
+use mir.Syntax.{Width, w16}
+use mir.Val.{bytes, bits}
 use Rattle.std.specs.Holes.{between}
 use Rattle.std.specs.declared.option.Option.{Option}
 use Rattle.std.specs.declared.option.Option.the-variants.{Some, None}
 use Rattle.model.specs.Wire.{In-range-plane, In-range-place, In-range-piece, In-range-face}
 use Rattle.model.specs.Format.{count-bytes, listed, plane-bytes, place-bytes, piece-bytes, face-bytes}
-use Rattle.model.specs.Finds.{Decoded, Stands, Found, Skipped, List-ends}
+use Rattle.model.specs.Finds.{Few, Decoded, Stands, Found, Skipped, List-ends}
 use Rattle.model.proofs.Digits.{Bytes}
-use Rattle.model.proofs.Coding.{Few, Both, both, code-listed}
+use Rattle.model.proofs.Coding.{Code, Both, both, code-listed}
 use Rattle.model.proofs.Codes.{length-count, length-plane, length-place}
 use Rattle.model.proofs.Things.{plane-code, place-code, piece-as, face-as}
-use Rattle.model.proofs.Finding.{found-sized, found-behind, found-not, found-as, found-list}
+use Rattle.model.proofs.Finding.{found-sized, found-behind, found-not, found-as, found-list, found-listed, So-far, so-far-stop}
+use Rattle.model.proofs.Standing.{stands-as}
 
--- a number that is read stands there
-pub number-stands : {l : List ℕ} {at n : ℕ} → at + 2 ≤ length l → Decoded (count-bytes w16) (λ (i : ℕ). i < 2 ^ 16) (between at (at + 2) l) n → Stands l at (count-bytes w16 n) (at + 2)
-number-stands {at = at} {n = n} h d = record { within = h; long = ap (λ (i : ℕ). at + i) (length-count w16 n); are = d .are }
+-- a number that is read stands there, in front of `begin`
+number-stands : (w : Width) {l : List ℕ} {at begin n : ℕ} → (begin ≡ at + bytes w) × (begin ≤ length l) → Decoded (count-bytes w) (λ (i : ℕ). i < 2 ^ bits w) (between at (at + bytes w) l) n → Stands l at (count-bytes w n) begin
+number-stands w {l} {at} {begin} {n} e d =
+    subst (Stands l at (count-bytes w n)) (sym (e .0))
+    (record { within = subst (λ (i : ℕ). i ≤ length l) (e .0) (e .1); long = ap (λ (i : ℕ). at + i) (length-count w n); are = d .are })
 
 pub list-ends : {l : List ℕ} {at begin n : ℕ} (size : ℕ) (r : Option ℕ) → (begin ≡ at + 2) × (begin ≤ length l) → Decoded (count-bytes w16) (λ (i : ℕ). i < 2 ^ 16) (between at (at + 2) l) n →
     Skipped l begin (size * n) r → List-ends l at size r
-list-ends {l} {n = n} size r e d s =
-    inr (n, d .range, number-stands (subst (λ (i : ℕ). i ≤ length l) (e .0) (e .1)) d, subst (λ (i : ℕ). Skipped l i (size * n) r) (e .0) s)
+list-ends {l} {at} {begin} {n} size r e d s =
+    inr (n, d .range, stands-as refl refl (e .0) (number-stands w16 e d), subst (λ (i : ℕ). Skipped l i (size * n) r) (e .0) s)
+
+-- things one by one behind their number, as far as they are there
+module _ {X : Type 0} {f : X → List ℕ} {R : X → Type 0} {k : ℕ} (j : Code f R k) (w : Width) {l : List ℕ} {from begin n : ℕ} (e : (begin ≡ from + bytes w) × (begin ≤ length l))
+    (d : Decoded (count-bytes w) (λ (i : ℕ). i < 2 ^ bits w) (between from (from + bytes w) l) n) where
+  pub list-stopped : {i at : ℕ} → So-far f R l begin i at → i < n → Found f R l at None → Found (listed w f) (Few R w) l from None
+  list-stopped p h q = found-listed f R w (d .range) (number-stands w e d) None (so-far-stop j p q h)
+
+  pub list-done : {i at : ℕ} → So-far f R l begin i at → i ≡ n → Found (listed w f) (Few R w) l from (Some at)
+  list-done p h = found-listed f R w (d .range) (number-stands w e d) (Some _) (p .0, (p .1 .0 ∙ h, p .1 .1), p .2)
 
 module _ (l : List ℕ) (b : Bytes l) where
   planes-found : (at : ℕ) (r : Option ℕ) → List-ends l at 7 r → Found (listed w16 plane-bytes) (Few In-range-plane w16) l at r

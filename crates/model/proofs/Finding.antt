@@ -15,9 +15,9 @@ use Rattle.std.specs.shelf.Lists.{All}
 use Rattle.std.proofs.shelf.Elements.{all-push}
 use Rattle.std.proofs.shelf.Lists.{joined-more, length-push}
 use Rattle.model.specs.Format.{count-bytes, listed}
-use Rattle.model.specs.Finds.{Stands, Found, Skipped, List-ends}
+use Rattle.model.specs.Finds.{Few, Stands, Found, Skipped, List-ends}
 use Rattle.model.proofs.Digits.{Bytes, bytes-drop}
-use Rattle.model.proofs.Coding.{Code, As, as-back, both, Both, Many, Few, code-count, code-joined}
+use Rattle.model.proofs.Coding.{Code, As, as-back, both, Both, Many, code-count, code-joined}
 use Rattle.model.proofs.Codes.{length-count, length-joined}
 use Rattle.model.proofs.Standing.{front-stands, stands-front, stands-both, stands-split, stands-nil, stands-as}
 

@@ -7,7 +7,8 @@ use mir.Val.{SFits}
 use Rattle.plane.specs.declared.types.Plane.{Plane}
 use Rattle.model.specs.Wire.{Wire-place, Wire-piece, Wire-face, Wire-model, In-range-plane, In-range-place, In-range-piece, In-range-face, In-range}
 use Rattle.model.specs.Format.{signed-bytes, listed, plane-bytes, place-bytes, piece-bytes, face-bytes, model-bytes}
-use Rattle.model.proofs.Coding.{Code, As, both, Both, Few, code-as, code-signed, code-both, code-listed}
+use Rattle.model.specs.Finds.{Few}
+use Rattle.model.proofs.Coding.{Code, As, both, Both, code-as, code-signed, code-both, code-listed}
 
 plane-as : As (both (signed-bytes w8) (both (signed-bytes w8) (both (signed-bytes w8) (signed-bytes w32)))) (Both (SFits w8) (Both (SFits w8) (Both (SFits w8) (SFits w32)))) plane-bytes In-range-plane
 unfolding plane-bytes

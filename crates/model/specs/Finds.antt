@@ -4,12 +4,18 @@ use mathlib.Core.List.{List}
 use mathlib.Core.Logic.{_⊎_}
 use Prim.Native.Nat.{ℕ, _+_, _*_, _≤_, _<_, _^_}
 use lib.ListN.{length}
-use mir.Syntax.{w16}
+use mir.Syntax.{Width, w16}
+use mir.Val.{bits}
 use Rattle.std.specs.Holes.{between}
 use Rattle.std.specs.Options.{Cases}
 use Rattle.std.specs.declared.option.Option.{Option}
 use Rattle.std.specs.declared.option.Option.the-variants.{None}
+use Rattle.std.specs.shelf.Lists.{All}
 use Rattle.model.specs.Format.{count-bytes}
+
+-- things in range whose number fits
+abbrev pub Few : {X : Type 0} → (X → Type 0) → Width → List X → Type 0
+Few R w xs = (length xs < 2 ^ bits w) × All R xs
 
 -- bs are the bytes of x, which is in range, and of nothing else in range
 pub record Decoded {X : Type 0} (f : X → List ℕ) (R : X → Type 0) (bs : List ℕ) (x : X) : Type 0 where

@@ -4,10 +4,9 @@ ghost use mathlib.Core.Path.{_≡_};
 ghost use Prim.Native.Nat.{_+_, _<_, _≤_, _^_};
 ghost use lib.ListN.{length};
 ghost use mir.Syntax.{w32};
-ghost use Rattle.std.specs.shelf.Lists.{All};
 ghost use Rattle.model.specs.Wire.{In-range-piece, In-range-face};
 ghost use Rattle.model.specs.Format.{listed, piece-bytes, face-bytes};
-ghost use Rattle.model.specs.Finds.{Found, Skipped, List-ends};
+ghost use Rattle.model.specs.Finds.{Few, Found, Skipped, List-ends};
 ghost use Rattle.model.specs.Extents.{Measured};
 use super::read::long_at;
 use super::read::short_at;
@@ -54,4 +53,27 @@ pub fn face_end(model: &[u8], at: usize) -> Option<usize>
     let place = list_end(model, edges, 7)?;
     let corners = skip(model, place, 32)?;
     list_end(model, corners, 32)
+}
+
+/// Where the pieces of a model end.
+fn pieces_end(model: &[u8]) -> Option<usize>
+    ensures { λ r. ⌜ Found (listed w32 piece-bytes) (Few In-range-piece w32) (now (model .entry)) 0 r ⌝ }
+{
+    let mut at = skip(model, 0, 4)?;
+    for _ in 0..long_at(model, 0) {
+        at = piece_end(model, at)?;
+    }
+    Some(at)
+}
+
+/// Where the faces of a model end, whose number stands at `from`.
+fn faces_end(model: &[u8], from: usize) -> Option<usize>
+    requires there { ⌜ from ≤ length (now model) ⌝ }
+    ensures { λ r. ⌜ Found (listed w32 face-bytes) (Few In-range-face w32) (now (model .entry)) from r ⌝ }
+{
+    let mut at = skip(model, from, 4)?;
+    for _ in 0..long_at(model, from) {
+        at = face_end(model, at)?;
+    }
+    Some(at)
 }
