@@ -6,4 +6,5 @@ pub mod Things
 pub mod Standing
 pub mod Finding
 pub mod Ends
+pub mod Whole
 pub mod Writes

@@ -34,3 +34,7 @@ abbrev pub Measured : List ℕ → Extent → Type 0
 Measured l (Whole k) = (m : Wire-model) × Decoded model-bytes In-range l m × Laid l m k
 Measured l Short = No-model l × Unfinished l
 Measured l (Long p) = (p < length l) × ((m : Wire-model) × Decoded model-bytes In-range (take p l) m)
+
+-- what was written is found again: of the bytes of a model it is said that they are one, and where its parts stand
+abbrev pub Read-again : List ℕ → Extent → Type 0
+Read-again l r = (m : Wire-model) → In-range m → l ≡ model-bytes m → (k : Layout) × (r ≡ Whole k) × Laid l m k

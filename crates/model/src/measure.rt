@@ -7,7 +7,7 @@ ghost use mir.Syntax.{w32};
 ghost use Rattle.model.specs.Wire.{In-range-piece, In-range-face};
 ghost use Rattle.model.specs.Format.{listed, piece-bytes, face-bytes};
 ghost use Rattle.model.specs.Finds.{Few, Found, Skipped, List-ends};
-ghost use Rattle.model.specs.Extents.{Measured};
+ghost use Rattle.model.specs.Extents.{Measured, Read-again};
 use super::read::long_at;
 use super::read::short_at;
 use super::types::Extent;
@@ -76,4 +76,25 @@ fn faces_end(model: &[u8], from: usize) -> Option<usize>
         at = face_end(model, at)?;
     }
     Some(at)
+}
+
+/// How far the model reaches that the bytes begin with.
+pub fn extent(model: &[u8]) -> Extent
+    ensures measured { λ r. ⌜ Measured (now (model .entry)) r ⌝ }
+    ensures again { λ r. ⌜ Read-again (now (model .entry)) r ⌝ }
+{
+    let Some(middle) = pieces_end(model) else {
+        return Extent::Short;
+    };
+    let Some(end) = faces_end(model, middle) else {
+        return Extent::Short;
+    };
+    if end < model.len() {
+        return Extent::Long(end);
+    }
+    Extent::Whole(Layout {
+        pieces: long_at(model, 0),
+        middle,
+        faces: long_at(model, middle),
+    })
 }
