@@ -74,13 +74,22 @@ found-listed f R w {n = n} h c (Some end) p =
     let e : length (p .0) ≡ n = p .1 .0 in
     (p .0, (subst (λ (i : ℕ). i < 2 ^ bits w) (sym e) h, p .1 .1), stands-both (stands-as refl (ap (count-bytes w) (sym e)) refl c) (p .2))
 
+-- a list's number, and what is listed behind it
+pub record Listed {X : Type 0} (w : Width) (f : X → List ℕ) (l : List ℕ) (at : ℕ) (xs : List X) (end : ℕ) : Type 0 where
+  pub number : Stands l at (count-bytes w (length xs)) (at + bytes w)
+  pub things : Stands l (at + bytes w) (joined f xs) end
+
+pub listed-stands : {X : Type 0} (w : Width) (f : X → List ℕ) (xs : List X) {l : List ℕ} {at end : ℕ} → Stands l at (listed w f xs) end → Listed w f l at xs end
+unfolding listed
+listed-stands w f xs {l} {at} s =
+    let u = stands-split (count-bytes w (length xs)) (joined f xs) s in
+    let e : at + length (count-bytes w (length xs)) ≡ at + bytes w = ap (λ (i : ℕ). at + i) (length-count w (length xs)) in
+    record { number = stands-as refl refl e (u .first); things = stands-as e refl refl (u .second) }
+
 -- where not even the number is there
 pub found-no-number : {X : Type 0} (f : X → List ℕ) (R : X → Type 0) (w : Width) (l : List ℕ) (at : ℕ) → length l < at + bytes w → Found (listed w f) (Few R w) l at None
-unfolding listed
 found-no-number f R w l at h = λ xs end g s.
-    let u = stands-split (count-bytes w (length xs)) (joined f xs) s .first in
-    let v : at + length (count-bytes w (length xs)) ≤ length l = u .within in
-    let e : length (count-bytes w (length xs)) ≡ bytes w = length-count w (length xs) in
+    let v : at + bytes w ≤ length l = listed-stands w f xs s .number .within in
     omega arith
 
 -- a list of things of n bytes each

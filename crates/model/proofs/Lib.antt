@@ -7,4 +7,5 @@ pub mod Standing
 pub mod Finding
 pub mod Ends
 pub mod Whole
+pub mod Walks
 pub mod Writes

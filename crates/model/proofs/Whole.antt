@@ -28,7 +28,7 @@ use Rattle.model.proofs.Codes.{length-count}
 use Rattle.model.proofs.Things.{piece-code, face-code, model-as, model-code}
 use Rattle.model.proofs.Decodes.{decoded}
 use Rattle.model.proofs.Standing.{front-stands, stands-as, stands-split, stands-both}
-use Rattle.model.proofs.Finding.{found-as, found-behind, found-not}
+use Rattle.model.proofs.Finding.{listed-stands, found-as, found-behind, found-not}
 
 -- the shorter of two fronts of one list begins the longer
 begins-longer : (a b r s : List ℕ) → a ++ r ≡ b ++ s → length a ≤ length b → b ≡ a ++ drop (length a) b
@@ -75,22 +75,8 @@ front-model l end m h s = decoded model-code m h (ap (λ (n : ℕ). take n l) (s
 pub long-measured : (l : List ℕ) (end : ℕ) → Found model-bytes In-range l 0 (Some end) → end < length l → Measured l (Long end)
 long-measured l end p h = (h, (p .0, front-model l end (p .0) (p .1) (p .2)))
 
--- a list's number, and what is listed behind it
-record Listed {X : Type 0} (w : Width) (f : X → List ℕ) (l : List ℕ) (at : ℕ) (xs : List X) (end : ℕ) : Type 0 where
-  number : between at (at + bytes w) l ≡ count-bytes w (length xs)
-  within : at + bytes w ≤ length l
-  things : Stands l (at + bytes w) (joined f xs) end
-
-listed-stands : {X : Type 0} (w : Width) (f : X → List ℕ) (xs : List X) {l : List ℕ} {at end : ℕ} → Stands l at (listed w f xs) end → Listed w f l at xs end
-unfolding listed
-listed-stands w f xs {l} {at} s =
-    let u = stands-split (count-bytes w (length xs)) (joined f xs) s in
-    let e : at + length (count-bytes w (length xs)) ≡ at + bytes w = ap (λ (i : ℕ). at + i) (length-count w (length xs)) in
-    let v = stands-as refl refl e (u .first) in
-    record { number = v .are; within = v .within; things = stands-as e refl refl (u .second) }
-
 pub number-within : {X : Type 0} (f : X → List ℕ) (R : X → Type 0) (l : List ℕ) (at end : ℕ) → Found (listed w32 f) (Few R w32) l at (Some end) → at + 4 ≤ length l
-number-within f R l at end p = listed-stands w32 f (p .0) (p .2) .within
+number-within f R l at end p = listed-stands w32 f (p .0) (p .2) .number .within
 
 pub whole-measured : (l : List ℕ) (middle end n k : ℕ) → Found (listed w32 piece-bytes) (Few In-range-piece w32) l 0 (Some middle) → Found (listed w32 face-bytes) (Few In-range-face w32) l middle (Some end) →
     length l ≤ end → Decoded (count-bytes w32) (λ (i : ℕ). i < 2 ^ 32) (between 0 4 l) n → Decoded (count-bytes w32) (λ (i : ℕ). i < 2 ^ 32) (between middle (middle + 4) l) k →
@@ -104,8 +90,8 @@ whole-measured l middle end n k p q h dn dk =
     (m,
      subst (λ (x : List ℕ). Decoded model-bytes In-range x m) (take-all end l h) (front-model l end m g (stands-both (p .2) (q .2))),
      record {
-       pieces = sym (dn .only (length (p .0)) (p .1 .0) (c .number));
-       faces = sym (dk .only (length (q .0)) (q .1 .0) (f .number));
+       pieces = sym (dn .only (length (p .0)) (p .1 .0) (c .number .are));
+       faces = sym (dk .only (length (q .0)) (q .1 .0) (f .number .are));
        pieces-stand = c .things;
        faces-stand = stands-as refl refl (le-antisymm (q .2 .within) h) (f .things)
      })
