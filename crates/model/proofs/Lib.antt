@@ -8,4 +8,5 @@ pub mod Finding
 pub mod Ends
 pub mod Whole
 pub mod Walks
+pub mod Wires
 pub mod Writes

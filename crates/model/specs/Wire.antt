@@ -1,7 +1,7 @@
 -- What stands in the bytes of a model: pieces and faces as a solid's, but with any numbers that fit their bytes.
 use mathlib.Core.List.{List, map}
 use Prim.Native.Nat.{_<_, _^_}
-use lib.IntN.{pos}
+use lib.IntN.{pos, natAbs}
 use lib.ListN.{length}
 use mir.Syntax.{w8, w16, w32, w64}
 use mir.Val.{SFits, bits}
@@ -73,3 +73,16 @@ wire-face f = record { plane = f .plane; edges = f .edges; place = wire-place (f
 
 abbrev pub wire : Model → Wire-model
 wire m = record { pieces = map wire-piece (m .pieces); faces = map wire-face (m .faces) }
+
+-- and back: w without its sign
+abbrev pub unwire-place : Wire-place → Place
+unwire-place q = record { x = q .x; y = q .y; z = q .z; w = natAbs (q .w) }
+
+abbrev pub unwire-piece : Wire-piece → Piece
+unwire-piece c = record { planes = c .planes; place = unwire-place (c .place) }
+
+abbrev pub unwire-face : Wire-face → Face
+unwire-face f = record { plane = f .plane; edges = f .edges; place = unwire-place (f .place); corners = map unwire-place (f .corners) }
+
+abbrev pub unwire : Wire-model → Model
+unwire m = record { pieces = map unwire-piece (m .pieces); faces = map unwire-face (m .faces) }

@@ -1,5 +1,6 @@
 //! Models as bytes, low byte first: written, read, and measured.
 
+pub mod laws;
 pub mod measure;
 pub mod read;
 pub mod types;
