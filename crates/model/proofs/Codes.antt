@@ -1,22 +1,22 @@
 -- Numbers as they are written in the bytes of a model, and read again.
 use mathlib.Core.Path.{_≡_, refl, sym, ap, ap₂, _∙_}
-use mathlib.Core.List.{List, [], _∷_, _++_, map}
-use Prim.Native.Nat.{ℕ, zero, suc, _+_, _*_, _/_, _%_, _≤_, _<_, _^_}
+use mathlib.Core.List.{List, [], _∷_, map}
+use Prim.Native.Nat.{ℕ, suc, _+_, _*_, _%_, _≤_, _<_, _^_}
 use native.Mathlib.Omega.{arith}
 use native.Mathlib.Nat.{mul-suc}
 use lib.Dec.{T, leb, leb→le}
 use lib.IntN.{ℤ}
 use lib.ListN.{length, getD, length-append}
 use lib.Signed.{mag}
-use mir.Syntax.{Width, w8, w16, w32, w64}
+use mir.Syntax.{Width, w8, w32, w64}
 use mir.Val.{bytes, bits, hbits, toZ, ofZ, SFits}
 use mir.Facts.{toZ-ofZ, fits-ofZ}
 use Rattle.std.specs.Joined.{joined}
 use Rattle.std.specs.shelf.Lists.{All}
 use Rattle.plane.specs.declared.types.Place.{Place}
 use Rattle.plane.specs.declared.types.Plane.{Plane}
-use Rattle.model.specs.Wire.{Wire-place, wire-place, In-range-plane, In-range-place}
-use Rattle.model.specs.Format.{low-first, listed, signed-bytes, plane-bytes, place-bytes, count-bytes}
+use Rattle.model.specs.Wire.{Wire-place, wire-place, In-range-place}
+use Rattle.model.specs.Format.{listed, signed-bytes, plane-bytes, place-bytes, count-bytes}
 use Rattle.model.proofs.Digits.{by-weight, from-weight, length-low-first}
 
 pub length-signed : (w : Width) (z : ℤ) → length (signed-bytes w z) ≡ bytes w

@@ -4,11 +4,10 @@ use mathlib.Core.List.{List, [], _∷_, _++_, append-assoc}
 use Prim.Native.Nat.{ℕ, zero, suc, _+_, _*_, _≤_, _<_, _^_}
 use native.Mathlib.Omega.{arith}
 use native.Mathlib.Nat.{mul-suc, add-comm, mul-le-mul-left}
-use lib.IntN.{ℤ}
-use lib.ListN.{length, getD, take, drop, length-append, length-drop, take-append-drop}
+use lib.ListN.{length, take, drop, length-append, take-append-drop}
 use lib.Seq.{length-take-le}
 use mir.Syntax.{Width, w8, w16, w32, w64, w128}
-use mir.Val.{bytes, bits, toZ, ofZ, Fits, SFits}
+use mir.Val.{bytes, bits, toZ, ofZ, SFits}
 use mir.Facts.{toZ-ofZ, ofZ-toZ, fits-ofZ, sfits-toZ}
 use Rattle.std.proofs.shelf.Lists.{take-at, drop-at}
 use Rattle.std.specs.Joined.{joined}
@@ -46,27 +45,28 @@ powers w128 = refl
 front-number : (k : ℕ) (l : List ℕ) → Bytes l → k ≤ length l → (value (take k l) < 256 ^ k) × (l ≡ low-first k (value (take k l)) ++ drop k l)
 front-number k l b h =
     let n : length (take k l) ≡ k = length-take-le k l h in
-    let t : Bytes (take k l) = bytes-take k l b in
-    (subst (λ (i : ℕ). value (take k l) < 256 ^ i) n (value-below (take k l) t),
-     sym (take-append-drop k l)
-     ∙ ap (λ (x : List ℕ). x ++ drop k l) (sym (low-first-value (take k l) t) ∙ ap (λ (i : ℕ). low-first i (value (take k l))) n))
+    let t : Bytes (take k l) = bytes-take k l b in (
+      subst (λ (i : ℕ). value (take k l) < 256 ^ i) n (value-below (take k l) t),
+      sym (take-append-drop k l)
+          ∙ ap (λ (x : List ℕ). x ++ drop k l) (sym (low-first-value (take k l) t) ∙ ap (λ (i : ℕ). low-first i (value (take k l))) n),
+    )
 
 pub code-count : (w : Width) → Code (count-bytes w) (λ (n : ℕ). n < 2 ^ bits w) (bytes w)
 unfolding count-bytes
 code-count w =
     record {
       apart = λ m n r s hm hn e.
-        let p = fronts (bytes w) (low-first (bytes w) m) (low-first (bytes w) n) r s (length-low-first (bytes w) m) (length-low-first (bytes w) n) e in
-        (sym (value-low-first (bytes w) m (subst (λ (k : ℕ). m < k) (sym (powers w)) hm)) ∙ ap value (p .0) ∙ value-low-first (bytes w) n (subst (λ (k : ℕ). n < k) (sym (powers w)) hn), p .1);
+          let p = fronts (bytes w) (low-first (bytes w) m) (low-first (bytes w) n) r s (length-low-first (bytes w) m) (length-low-first (bytes w) n) e in
+          (sym (value-low-first (bytes w) m (subst (λ (k : ℕ). m < k) (sym (powers w)) hm)) ∙ ap value (p .0) ∙ value-low-first (bytes w) n (subst (λ (k : ℕ). n < k) (sym (powers w)) hn), p .1);
       reads = λ l b h.
-        let p = front-number (bytes w) l b h in
-        record {
-          thing = value (take (bytes w) l);
-          range = subst (λ (k : ℕ). value (take (bytes w) l) < k) (powers w) (p .0);
-          rest = drop (bytes w) l;
-          is = p .1;
-          short = subst (λ (k : ℕ). k ≤ bytes w) (sym (length-low-first (bytes w) (value (take (bytes w) l)))) (omega arith)
-        }
+          let p = front-number (bytes w) l b h in
+          record {
+            thing = value (take (bytes w) l);
+            range = subst (λ (k : ℕ). value (take (bytes w) l) < k) (powers w) (p .0);
+            rest = drop (bytes w) l;
+            is = p .1;
+            short = subst (λ (k : ℕ). k ≤ bytes w) (sym (length-low-first (bytes w) (value (take (bytes w) l)))) (omega arith);
+          };
     }
 
 -- things that stand for others
@@ -86,18 +86,18 @@ pub code-as : {X Y : Type 0} {f : X → List ℕ} {R : X → Type 0} {g : Y → 
 code-as {n = n} a k =
     record {
       apart = λ x y r s hx hy e.
-        let p = k .apart (a .to x) (a .to y) r s (a .into x hx) (a .into y hy) (ap (λ (l : List ℕ). l ++ r) (sym (a .are x)) ∙ e ∙ ap (λ (l : List ℕ). l ++ s) (a .are y)) in
-        (sym (a .again x hx) ∙ ap (a .back) (p .0) ∙ a .again y hy, p .1);
+          let p = k .apart (a .to x) (a .to y) r s (a .into x hx) (a .into y hy) (ap (λ (l : List ℕ). l ++ r) (sym (a .are x)) ∙ e ∙ ap (λ (l : List ℕ). l ++ s) (a .are y)) in
+          (sym (a .again x hx) ∙ ap (a .back) (p .0) ∙ a .again y hy, p .1);
       reads = λ l b h.
-        let p = k .reads l b h in
-        let e = as-back a (p .thing) (p .range) in
-        record {
-          thing = a .back (p .thing);
-          range = a .out (p .thing) (p .range);
-          rest = p .rest;
-          is = p .is ∙ ap (λ (x : List ℕ). x ++ p .rest) e;
-          short = subst (λ (x : List ℕ). length x ≤ n) e (p .short)
-        }
+          let p = k .reads l b h in
+          let e = as-back a (p .thing) (p .range) in
+          record {
+            thing = a .back (p .thing);
+            range = a .out (p .thing) (p .range);
+            rest = p .rest;
+            is = p .is ∙ ap (λ (x : List ℕ). x ++ p .rest) e;
+            short = subst (λ (x : List ℕ). length x ≤ n) e (p .short);
+          };
     }
 
 pub code-signed : (w : Width) → Code (signed-bytes w) (SFits w) (bytes w)
@@ -113,7 +113,7 @@ code-signed w = code-as two-complement (code-count w)
           into = λ z h. fits-ofZ h .fits;
           out = λ n h. sfits-toZ (record { fits = h });
           again = λ z h. toZ-ofZ h;
-          over = λ n h. ofZ-toZ (record { fits = h })
+          over = λ n h. ofZ-toZ (record { fits = h });
         }
 
 -- one thing behind another
@@ -135,10 +135,10 @@ begins-both {f = f} {g = g} {m = m} {n = n} p q =
       rest = q .rest;
       is = p .is ∙ ap (λ (a : List ℕ). f (p .thing) ++ a) (q .is) ∙ sym (append-assoc (f (p .thing)) (g (q .thing)) (q .rest));
       short =
-        let u : length (f (p .thing)) ≤ m = p .short in
-        let v : length (g (q .thing)) ≤ n = q .short in
-        let z : length (f (p .thing) ++ g (q .thing)) ≡ length (f (p .thing)) + length (g (q .thing)) = length-append (f (p .thing)) (g (q .thing)) in
-        omega arith
+          let u : length (f (p .thing)) ≤ m = p .short in
+          let v : length (g (q .thing)) ≤ n = q .short in
+          let z : length (f (p .thing) ++ g (q .thing)) ≡ length (f (p .thing)) + length (g (q .thing)) = length-append (f (p .thing)) (g (q .thing)) in
+          omega arith;
     }
 
 -- a thing of the one kind, and one of the other behind it
@@ -151,10 +151,10 @@ pub code-both : {X Y : Type 0} {f : X → List ℕ} {R : X → Type 0} {g : Y �
 code-both {X} {Y} {f} {R} {g} {S} {m} {n} j k =
     record {
       apart = λ x y r s hx hy e.
-        let p = j .apart (x .0) (y .0) (g (x .1) ++ r) (g (y .1) ++ s) (hx .0) (hy .0) (sym (append-assoc (f (x .0)) (g (x .1)) r) ∙ e ∙ append-assoc (f (y .0)) (g (y .1)) s) in
-        let q = k .apart (x .1) (y .1) r s (hx .1) (hy .1) (p .1) in
-        (ap₂ (λ (a : X) (b : Y). (a, b)) (p .0) (q .0), q .1);
-      reads = λ l b h. reads-both (j .reads l b (omega arith)) (k .reads) b h
+          let p = j .apart (x .0) (y .0) (g (x .1) ++ r) (g (y .1) ++ s) (hx .0) (hy .0) (sym (append-assoc (f (x .0)) (g (x .1)) r) ∙ e ∙ append-assoc (f (y .0)) (g (y .1)) s) in
+          let q = k .apart (x .1) (y .1) r s (hx .1) (hy .1) (p .1) in
+          (ap₂ (λ (a : X) (b : Y). (a, b)) (p .0) (q .0), q .1);
+      reads = λ l b h. reads-both (j .reads l b (omega arith)) (k .reads) b h;
     }
 
 -- this one and no other
@@ -185,7 +185,7 @@ module _ {X : Type 0} {f : X → List ℕ} {R : X → Type 0} {k : ℕ} (j : Cod
         range = (ap suc (q .range .1 .0), (q .range .0, q .range .1 .1));
         rest = q .rest;
         is = q .is;
-        short = subst (λ (i : ℕ). length (f (q .thing .0) ++ joined f (q .thing .1)) ≤ i) (sym e) (q .short)
+        short = subst (λ (i : ℕ). length (f (q .thing .0) ++ joined f (q .thing .1)) ≤ i) (sym e) (q .short);
       }
 
   pub code-joined : (n : ℕ) → Code (joined f) (Many R n) (k * n)
@@ -210,7 +210,7 @@ module _ {X : Type 0} {f : X → List ℕ} {R : X → Type 0} {k : ℕ} (j : Cod
         range = (subst (λ (i : ℕ). i < 2 ^ bits w) (sym (q .range .1 .0)) t, q .range .1 .1);
         rest = q .rest;
         is = q .is ∙ ap (λ (a : List ℕ). a ++ q .rest) z;
-        short = omega arith
+        short = omega arith;
       }
 
   pub code-listed : (w : Width) → Code (listed w f) (Few R w) (bytes w + k * 2 ^ bits w)
@@ -218,10 +218,10 @@ module _ {X : Type 0} {f : X → List ℕ} {R : X → Type 0} {k : ℕ} (j : Cod
   code-listed w =
       record {
         apart = λ xs ys r s hx hy e.
-          let p = code-count w .apart (length xs) (length ys) (joined f xs ++ r) (joined f ys ++ s) (hx .0) (hy .0)
-              (sym (append-assoc (count-bytes w (length xs)) (joined f xs) r) ∙ e ∙ append-assoc (count-bytes w (length ys)) (joined f ys) s) in
-          apart-joined xs ys r s (p .0) (hx .1) (hy .1) (p .1);
+            let p = code-count w .apart (length xs) (length ys) (joined f xs ++ r) (joined f ys ++ s) (hx .0) (hy .0)
+            (sym (append-assoc (count-bytes w (length xs)) (joined f xs) r) ∙ e ∙ append-assoc (count-bytes w (length ys)) (joined f ys) s) in
+            apart-joined xs ys r s (p .0) (hx .1) (hy .1) (p .1);
         reads = λ l b h.
-          let p = code-count w .reads l b (omega arith) in
-          listed-begins w (p .thing) (p .range) (reads-both (just p) (reads-joined (p .thing)) b (enough w (p .thing) (length l) (p .range) h))
+            let p = code-count w .reads l b (omega arith) in
+            listed-begins w (p .thing) (p .range) (reads-both (just p) (reads-joined (p .thing)) b (enough w (p .thing) (length l) (p .range) h));
       }

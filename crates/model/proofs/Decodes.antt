@@ -1,5 +1,5 @@
 -- Numbers, planes and places read from bytes.
-use mathlib.Core.Path.{_≡_, refl, sym, ap, ap₂, _∙_, subst}
+use mathlib.Core.Path.{_≡_, sym, ap, ap₂, _∙_, subst}
 use mathlib.Core.List.{List, [], _++_}
 use Prim.Native.Nat.{ℕ, suc, _+_, _-_, _≤_, _<_, _^_}
 use native.Mathlib.Omega.{arith}
@@ -77,8 +77,8 @@ in-four l at n1 n2 n3 n4 {p} {q} {r} {s} ep eq er es =
     let two = between-joint l (at + n1) (at + (n1 + n2)) end (omega arith) (omega arith) in
     between-joint l at (at + n1) end (omega arith) (omega arith)
     ∙ ap₂ (λ (x y : List ℕ). x ++ y) ep
-      (two ∙ ap₂ (λ (x y : List ℕ). x ++ y) (ap (λ (n : ℕ). between (at + n1) n l) e2 ∙ eq)
-      (three ∙ ap₂ (λ (x y : List ℕ). x ++ y) (ap (λ (n : ℕ). between (at + (n1 + n2)) n l) e3 ∙ er) (ap (λ (n : ℕ). between (at + (n1 + n2 + n3)) n l) e4 ∙ es)))
+    (two ∙ ap₂ (λ (x y : List ℕ). x ++ y) (ap (λ (n : ℕ). between (at + n1) n l) e2 ∙ eq)
+    (three ∙ ap₂ (λ (x y : List ℕ). x ++ y) (ap (λ (n : ℕ). between (at + (n1 + n2)) n l) e3 ∙ er) (ap (λ (n : ℕ). between (at + (n1 + n2 + n3)) n l) e4 ∙ es)))
 
 -- a signed number read, as it is put in its place
 pub stored : {w : Width} {bs : List ℕ} {z : ℤ} → T (leb (2 ^ hbits w) (2 ^ 63)) → Decoded (signed-bytes w) (SFits w) bs z → Decoded (signed-bytes w) (SFits w) bs (toZ w64 (ofZ w64 z))

@@ -1,7 +1,7 @@
 -- Where pieces and faces end.
 use mathlib.Core.Path.{_≡_, refl, sym, ap, _∙_, subst}
 use mathlib.Core.List.{List}
-use mathlib.Core.Logic.{_⊎_, inl, inr}
+use mathlib.Core.Logic.{inr}
 use Prim.Native.Nat.{ℕ, _+_, _*_, _≤_, _<_, _^_}
 use lib.ListN.{length}
 use mir.Syntax.{Width, w16}
@@ -67,7 +67,7 @@ module _ (l : List ℕ) (b : Bytes l) where
   face-behind at edges h p r q =
       found-as face-as l at r
       (found-behind plane-code (both (listed w16 plane-bytes) (both place-bytes (listed w16 place-bytes))) (Both (Few In-range-plane w16) (Both In-range-place (Few In-range-place w16)))
-        (plane-found at h (Some edges) p) r q)
+      (plane-found at h (Some edges) p) r q)
 
   edges-behind : (edges place : ℕ) → List-ends l edges 7 (Some place) → (r : Option ℕ) → (place ≤ length l → Found (both place-bytes (listed w16 place-bytes)) (Both In-range-place (Few In-range-place w16)) l place r) →
       Found (both (listed w16 plane-bytes) (both place-bytes (listed w16 place-bytes))) (Both (Few In-range-plane w16) (Both In-range-place (Few In-range-place w16))) l edges r

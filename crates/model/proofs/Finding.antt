@@ -1,14 +1,13 @@
 -- Things found in bytes: where one ends, or that the bytes end before it.
 use mathlib.Core.Path.{_≡_, refl, sym, ap, _∙_, subst}
 use mathlib.Core.List.{List, [], _∷_, _++_}
-use mathlib.Core.Logic.{_⊎_, inl, inr}
-use Prim.Native.Nat.{ℕ, suc, _+_, _-_, _*_, _≤_, _<_, _^_}
+use mathlib.Core.Logic.{inl, inr}
+use Prim.Native.Nat.{ℕ, _+_, _-_, _*_, _≤_, _<_, _^_}
 use native.Mathlib.Omega.{arith}
-use lib.ListN.{length, drop, length-append, length-drop}
+use lib.ListN.{length, drop, length-drop}
 use mir.Syntax.{Width, w16}
 use mir.Val.{bytes, bits}
 use Rattle.std.specs.Joined.{joined}
-use Rattle.std.specs.Options.{Cases}
 use Rattle.std.specs.declared.option.Option.{Option}
 use Rattle.std.specs.declared.option.Option.the-variants.{Some, None}
 use Rattle.std.specs.shelf.Lists.{All}
@@ -108,9 +107,11 @@ pub so-far-none : {X : Type 0} (f : X → List ℕ) (R : X → Type 0) (l : List
 so-far-none f R l from h = ([], (refl, tt), stands-nil l from h)
 
 pub so-far-more : {X : Type 0} {f : X → List ℕ} {R : X → Type 0} {l : List ℕ} {from i at end : ℕ} → So-far f R l from i at → Found f R l at (Some end) → So-far f R l from (i + 1) end
-so-far-more {f = f} {R = R} p q =
-    (p .0 ++ (q .0 ∷ []), (length-push (p .0) (q .0) ∙ ap (λ (n : ℕ). n + 1) (p .1 .0), all-push R (p .0) (q .0) (p .1 .1) (q .1)),
-     stands-as refl (joined-more f [] (p .0) (q .0)) refl (stands-both (p .2) (q .2)))
+so-far-more {f = f} {R = R} p q = (
+  p .0 ++ (q .0 ∷ []),
+  (length-push (p .0) (q .0) ∙ ap (λ (n : ℕ). n + 1) (p .1 .0), all-push R (p .0) (q .0) (p .1 .1) (q .1)),
+  stands-as refl (joined-more f [] (p .0) (q .0)) refl (stands-both (p .2) (q .2)),
+)
 
 -- where the next is not there, no longer list is
 pub so-far-stop : {X : Type 0} {f : X → List ℕ} {R : X → Type 0} {k : ℕ} → Code f R k → {l : List ℕ} {from i at n : ℕ} → So-far f R l from i at → Found f R l at None → i < n → Found (joined f) (Many R n) l from None

@@ -22,7 +22,7 @@ front-stands l bs rest at end h e n =
     record {
       within = omega arith;
       long = n;
-      are = ap₂ take k e ∙ take-at bs rest (length bs) refl
+      are = ap₂ take k e ∙ take-at bs rest (length bs) refl;
     }
 
 pub stands-within : {l bs : List ℕ} {at end : ℕ} → Stands l at bs end → at ≤ length l
@@ -52,8 +52,8 @@ stands-split {l} {a} {c} bs cs s =
     record {
       first = f;
       second =
-        front-stands l cs (drop c l) (a + length bs) c (f .within)
-        (sym (drop-drop (length bs) a l) ∙ ap (drop (length bs)) e ∙ drop-at bs (cs ++ drop c l) (length bs) refl) (omega arith)
+          front-stands l cs (drop c l) (a + length bs) c (f .within)
+          (sym (drop-drop (length bs) a l) ∙ ap (drop (length bs)) e ∙ drop-at bs (cs ++ drop c l) (length bs) refl) (omega arith);
     }
 
 -- the same bytes from and to the same places

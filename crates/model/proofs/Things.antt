@@ -1,11 +1,9 @@
 -- The things of a model as they are written: parts one behind the other.
-use mathlib.Core.Path.{_≡_, refl}
-use mathlib.Core.List.{List}
+use mathlib.Core.Path.{refl}
 use Prim.Native.Nat.{ℕ, _+_, _*_, _^_}
 use mir.Syntax.{w8, w16, w32, w64}
 use mir.Val.{SFits}
-use Rattle.plane.specs.declared.types.Plane.{Plane}
-use Rattle.model.specs.Wire.{Wire-place, Wire-piece, Wire-face, Wire-model, In-range-plane, In-range-place, In-range-piece, In-range-face, In-range}
+use Rattle.model.specs.Wire.{In-range-plane, In-range-place, In-range-piece, In-range-face, In-range}
 use Rattle.model.specs.Format.{signed-bytes, listed, plane-bytes, place-bytes, piece-bytes, face-bytes, model-bytes}
 use Rattle.model.specs.Finds.{Few}
 use Rattle.model.proofs.Coding.{Code, As, both, Both, code-as, code-signed, code-both, code-listed}
@@ -20,7 +18,7 @@ plane-as =
       into = λ p h. (h .a, (h .b, (h .c, h .d)));
       out = λ t h. record { a = h .0; b = h .1 .0; c = h .1 .1 .0; d = h .1 .1 .1 };
       again = λ p h. refl;
-      over = λ t h. refl
+      over = λ t h. refl;
     }
 
 pub plane-code : Code plane-bytes In-range-plane 7
@@ -36,7 +34,7 @@ place-as =
       into = λ q h. (h .x, (h .y, (h .z, h .w)));
       out = λ t h. record { x = h .0; y = h .1 .0; z = h .1 .1 .0; w = h .1 .1 .1 };
       again = λ q h. refl;
-      over = λ t h. refl
+      over = λ t h. refl;
     }
 
 pub place-code : Code place-bytes In-range-place 32
@@ -62,7 +60,7 @@ piece-as =
       into = λ c h. ((h .few, h .planes), h .place);
       out = λ t h. record { few = h .0 .0; planes = h .0 .1; place = h .1 };
       again = λ c h. refl;
-      over = λ t h. refl
+      over = λ t h. refl;
     }
 
 pub piece-code : Code piece-bytes In-range-piece piece-most
@@ -79,7 +77,7 @@ face-as =
       into = λ f h. (h .plane, ((h .few-edges, h .edges), (h .place, (h .few-corners, h .corners))));
       out = λ t h. record { plane = h .0; few-edges = h .1 .0 .0; edges = h .1 .0 .1; place = h .1 .1 .0; few-corners = h .1 .1 .1 .0; corners = h .1 .1 .1 .1 };
       again = λ f h. refl;
-      over = λ t h. refl
+      over = λ t h. refl;
     }
 
 pub face-code : Code face-bytes In-range-face face-most
@@ -95,7 +93,7 @@ model-as =
       into = λ m h. ((h .few-pieces, h .pieces), (h .few-faces, h .faces));
       out = λ t h. record { few-pieces = h .0 .0; pieces = h .0 .1; few-faces = h .1 .0; faces = h .1 .1 };
       again = λ m h. refl;
-      over = λ t h. refl
+      over = λ t h. refl;
     }
 
 pub model-code : Code model-bytes In-range model-most

@@ -11,14 +11,13 @@ use Rattle.std.specs.Holes.{between}
 use Rattle.std.specs.Joined.{joined}
 use Rattle.std.specs.declared.option.Option.{Option}
 use Rattle.std.specs.declared.option.Option.the-variants.{Some, None}
-use Rattle.plane.specs.declared.types.Plane.{Plane}
 use Rattle.model.specs.Wire.{Wire-place, Wire-piece, Wire-face}
 use Rattle.model.specs.Format.{count-bytes, listed, plane-bytes, place-bytes, piece-bytes, face-bytes}
 use Rattle.model.specs.Finds.{Decoded, Stands, Found}
 use Rattle.model.proofs.Coding.{Code}
 use Rattle.model.proofs.Codes.{length-plane, length-place, length-listed}
 use Rattle.model.proofs.Standing.{Split, stands-split, stands-as}
-use Rattle.model.proofs.Finding.{Same, one-thing, Listed, listed-stands}
+use Rattle.model.proofs.Finding.{one-thing, listed-stands}
 
 -- what is read is what stands there
 pub what-is-read : {X : Type 0} {f : X → List ℕ} {R : X → Type 0} {l : List ℕ} {at end : ℕ} {x r : X} → R x → Stands l at (f x) end → Decoded f R (between at end l) r → r ≡ x
@@ -129,5 +128,5 @@ face-parts {l} {at} {end} f s =
       plane = stands-as refl refl (sym e) (u .first);
       edges = record { number = p .number; each = p .each; ends = refl };
       place = stands-as refl refl (sym z) (w .first);
-      corners = of-size place-bytes 32 length-place (f .corners) (behind q vs z w)
+      corners = of-size place-bytes 32 length-place (f .corners) (behind q vs z w);
     }

@@ -1,33 +1,30 @@
 -- How far the model reaches that bytes begin with.
-use mathlib.Core.Path.{_≡_, refl, sym, ap, ap₂, _∙_, subst}
+use mathlib.Core.Path.{_≡_, refl, sym, ap, _∙_, subst}
 use mathlib.Core.List.{List, [], _++_, append-nil}
 use mathlib.Core.Logic.{_⊎_, inl, inr}
 use Prim.Native.Nat.{ℕ, zero, suc, _+_, _-_, _≤_, _<_, _^_, zero-le}
 use native.Mathlib.Omega.{arith}
 use native.Mathlib.Nat.{zero-add, sub-zero, le-antisymm}
-use lib.ListN.{length, take, drop, getD, replicate, length-append, length-drop, take-append-drop}
+use lib.ListN.{length, take, drop, replicate, length-append, length-drop, take-append-drop}
 use lib.Seq.{take-all}
-use mir.Syntax.{Width, w32}
-use mir.Val.{bytes, bits}
-use Rattle.std.proofs.shelf.Lists.{take-at, drop-at, take-append-le, length-replicate}
+use mir.Syntax.{w32}
+use mir.Val.{bytes}
+use Rattle.std.proofs.shelf.Lists.{take-at, take-append-le, length-replicate}
 use Rattle.std.proofs.shelf.Tests.{cases-lt}
 use Rattle.std.specs.Holes.{between}
-use Rattle.std.specs.Joined.{joined}
 use Rattle.std.specs.declared.option.Option.{Option}
 use Rattle.std.specs.declared.option.Option.the-variants.{Some, None}
-use Rattle.model.specs.declared.types.Layout.{Layout}
 use Rattle.model.specs.declared.types.Extent.{Extent}
 use Rattle.model.specs.declared.types.Extent.the-variants.{Whole, Short, Long}
-use Rattle.model.specs.Wire.{Wire-model, Wire-piece, Wire-face, In-range-piece, In-range-face, In-range}
+use Rattle.model.specs.Wire.{Wire-model, In-range-piece, In-range-face, In-range}
 use Rattle.model.specs.Format.{count-bytes, listed, piece-bytes, face-bytes, model-bytes}
 use Rattle.model.specs.Finds.{Few, Decoded, Stands, Found}
-use Rattle.model.specs.Extents.{Laid, No-model, Unfinished, Measured, Read-again}
+use Rattle.model.specs.Extents.{Laid, No-model, Measured, Read-again}
 use Rattle.model.proofs.Digits.{Bytes, bytes-append}
-use Rattle.model.proofs.Coding.{Code, Begins, code-listed}
-use Rattle.model.proofs.Codes.{length-count}
-use Rattle.model.proofs.Things.{piece-code, face-code, model-as, model-code}
+use Rattle.model.proofs.Coding.{Code, code-listed}
+use Rattle.model.proofs.Things.{piece-code, model-as, model-code}
 use Rattle.model.proofs.Decodes.{decoded}
-use Rattle.model.proofs.Standing.{front-stands, stands-as, stands-split, stands-both}
+use Rattle.model.proofs.Standing.{front-stands, stands-as, stands-both}
 use Rattle.model.proofs.Finding.{listed-stands, found-as, found-behind, found-not}
 
 -- the shorter of two fronts of one list begins the longer
@@ -86,15 +83,16 @@ whole-measured l middle end n k p q h dn dk =
     let c = listed-stands w32 piece-bytes (p .0) (p .2) in
     let f = listed-stands w32 face-bytes (q .0) (q .2) in
     let m : Wire-model = record { pieces = p .0; faces = q .0 } in
-    let g : In-range m = record { few-pieces = p .1 .0; pieces = p .1 .1; few-faces = q .1 .0; faces = q .1 .1 } in
-    (m,
-     subst (λ (x : List ℕ). Decoded model-bytes In-range x m) (take-all end l h) (front-model l end m g (stands-both (p .2) (q .2))),
-     record {
-       pieces = sym (dn .only (length (p .0)) (p .1 .0) (c .number .are));
-       faces = sym (dk .only (length (q .0)) (q .1 .0) (f .number .are));
-       pieces-stand = c .things;
-       faces-stand = stands-as refl refl (le-antisymm (q .2 .within) h) (f .things)
-     })
+    let g : In-range m = record { few-pieces = p .1 .0; pieces = p .1 .1; few-faces = q .1 .0; faces = q .1 .1 } in (
+      m,
+      subst (λ (x : List ℕ). Decoded model-bytes In-range x m) (take-all end l h) (front-model l end m g (stands-both (p .2) (q .2))),
+      record {
+        pieces = sym (dn .only (length (p .0)) (p .1 .0) (c .number .are));
+        faces = sym (dk .only (length (q .0)) (q .1 .0) (f .number .are));
+        pieces-stand = c .things;
+        faces-stand = stands-as refl refl (le-antisymm (q .2 .within) h) (f .things);
+      },
+    )
 
 pub read-again : (l : List ℕ) (r : Extent) → Measured l r → Read-again l r
 read-again l (Whole k) p = λ n h e. (k, refl, subst (λ (x : Wire-model). Laid l x k) (sym (p .1 .only n h e)) (p .2))

@@ -1,22 +1,19 @@
 -- A solid's model and what of it stands in the bytes.
 use mathlib.Core.Path.{_≡_, refl, sym, ap, ap₂, _∙_}
 use mathlib.Core.List.{List, [], _∷_, _++_, map}
-use Prim.Native.Nat.{ℕ, _+_, _≤_, _<_, _^_}
+use Prim.Native.Nat.{ℕ, _≤_, _<_, _^_}
 use native.Mathlib.Omega.{arith}
 use lib.IntN.{ℤ, pos, natAbs}
 use lib.Signed.{_≤ℤ_}
-use mir.Syntax.{w8, w32, w64}
+use mir.Syntax.{w8, w32}
 use mir.Val.{SFits}
 use Rattle.arith.specs.Bounds.{Short}
 use Rattle.arith.proofs.Sized.{short-fits}
 use Rattle.std.specs.shelf.Lists.{All}
 use Rattle.std.proofs.shelf.Signed.{ints}
-use Rattle.plane.specs.declared.types.Plane.{Plane}
 use Rattle.plane.specs.declared.types.Place.{Place}
-use Rattle.plane.specs.Limits.{Fits-plane, Small-place}
 use Rattle.solid.specs.Models.{Piece, Face, Model}
-use Rattle.model.specs.Wire.{Wire-place, Wire-piece, Wire-face, Wire-model, In-range-plane, In-range-place, In-range, wire-place, wire-piece, wire-face, wire, unwire-place, unwire-piece, unwire-face, unwire}
-use Rattle.model.specs.Format.{model-bytes}
+use Rattle.model.specs.Wire.{Wire-place, Wire-piece, Wire-face, Wire-model, wire-place, wire-piece, wire-face, wire, unwire-place, unwire-piece, unwire-face, unwire}
 use Rattle.model.specs.Laws.{Begun-once, Meant-once, Solid-once, Writable}
 use Rattle.model.proofs.Things.{model-code}
 
@@ -78,7 +75,7 @@ pub writable : Writable
 writable =
     record {
       plane = λ p h. record { a = slope-fits (p .a) (h .a); b = slope-fits (p .b) (h .b); c = slope-fits (p .c) (h .c); d = offset-fits (p .d) (h .d) };
-      place = λ q h. record { x = short-fits (h .x) tt; y = short-fits (h .y) tt; z = short-fits (h .z) tt; w = record { sfits = small (q .w) (h .w) } }
+      place = λ q h. record { x = short-fits (h .x) tt; y = short-fits (h .y) tt; z = short-fits (h .z) tt; w = record { sfits = small (q .w) (h .w) } };
     }
   where
     small : (w : ℕ) → w ≤ 4398046511103 → w < 2 ^ 63

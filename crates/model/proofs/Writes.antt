@@ -38,7 +38,7 @@ and-then {m} {bs} {m1} {n} cs ys k w l f =
     let g : drop (n + k) m1 ≡ drop (n + k) m = sym (drop-drop k n m1) ∙ ap (drop k) d ∙ drop-drop k n m in
     record {
       long = length-append bs cs ∙ ap (λ (x : ℕ). x + length cs) (w .long) ∙ ap (λ (x : ℕ). n + x) l;
-      is = lent-on n k m1 cs ys f ∙ ap (λ (l : List ℕ). l ++ (cs ++ drop (n + k) m1)) t ∙ ap (λ (l : List ℕ). bs ++ (cs ++ l)) g ∙ sym (append-assoc bs cs (drop (n + k) m))
+      is = lent-on n k m1 cs ys f ∙ ap (λ (l : List ℕ). l ++ (cs ++ drop (n + k) m1)) t ∙ ap (λ (l : List ℕ). bs ++ (cs ++ l)) g ∙ sym (append-assoc bs cs (drop (n + k) m));
     }
 
 -- m1 is m with the first i of xs written from a on, which end at n

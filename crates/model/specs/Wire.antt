@@ -3,8 +3,8 @@ use mathlib.Core.List.{List, map}
 use Prim.Native.Nat.{_<_, _^_}
 use lib.IntN.{pos, natAbs}
 use lib.ListN.{length}
-use mir.Syntax.{w8, w16, w32, w64}
-use mir.Val.{SFits, bits}
+use mir.Syntax.{w8, w32, w64}
+use mir.Val.{SFits}
 use Rattle.std.specs.shelf.Lists.{All}
 use Rattle.plane.specs.declared.types.Plane.{Plane}
 use Rattle.plane.specs.declared.types.Place.{Place}

@@ -1,7 +1,6 @@
 //! How far a model reaches in bytes that may be anything.
 
-ghost use mathlib.Core.Path.{_≡_};
-ghost use Prim.Native.Nat.{_+_, _<_, _≤_, _^_};
+ghost use Prim.Native.Nat.{_≤_};
 ghost use lib.ListN.{length};
 ghost use mir.Syntax.{w32};
 ghost use Rattle.model.specs.Wire.{In-range-piece, In-range-face};

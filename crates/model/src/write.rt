@@ -108,7 +108,13 @@ pub fn put_piece(out: &mut [u8], planes: &[Plane], place: Place) -> usize
 }
 
 /// Writes a face, and says how many bytes it has.
-pub fn put_face(out: &mut [u8], plane: Plane, edges: &[Plane], place: Place, corners: &[Place]) -> usize
+pub fn put_face(
+    out: &mut [u8],
+    plane: Plane,
+    edges: &[Plane],
+    place: Place,
+    corners: &[Place],
+) -> usize
     requires range { ⌜ In-range-face (wire-face (record { plane = plane; edges = now edges; place = place; corners = now corners })) ⌝ }
     requires room { ⌜ 43 + 7 * length (now edges) + 32 * length (now corners) ≤ length (now out) ⌝ }
     ensures written { λ r. ⌜ now (out .exit) ≡ face-bytes (wire-face (record { plane = plane; edges = now (edges .entry); place = place; corners = now (corners .entry) })) ++ drop r (now (out .entry)) ⌝ }

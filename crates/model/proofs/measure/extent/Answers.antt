@@ -1,5 +1,3 @@
-use Prim.Native.Nat.{_≤_}
-use lib.ListN.{length}
 use Rattle.std.specs.declared.option.Option.the-variants.{Some, None}
 use Rattle.model.specs.declared.types.Layout.{Layout}
 use Rattle.model.specs.declared.types.Extent.the-variants.{Whole, Short, Long}
@@ -38,5 +36,5 @@ returns c =
     let l = c .args .model .now in
     let k : Layout = record { pieces = c .long-at .result; middle = c .in-Some .middle; faces = c .long-at-2 .result } in
     let m = whole-measured l (c .in-Some .middle) (c .in-Some-faces-end .end) (c .long-at .result) (c .long-at-2 .result)
-        (c .in-Some .ensures tt) (c .in-Some-faces-end .ensures tt) (c .if-end-model .left) (c .long-at .ensures) (c .long-at-2 .ensures) in
+    (c .in-Some .ensures tt) (c .in-Some-faces-end .ensures tt) (c .if-end-model .left) (c .long-at .ensures) (c .long-at-2 .ensures) in
     record { measured = m; again = read-again l (Whole k) m }

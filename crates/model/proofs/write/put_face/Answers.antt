@@ -1,9 +1,8 @@
 use mathlib.Core.Path.{_≡_, ap, sym, _∙_}
 use mathlib.Core.List.{List, _++_, map}
-use Prim.Native.Nat.{ℕ, _+_, _-_, _*_, _≤_}
+use Prim.Native.Nat.{ℕ, _+_, _*_}
 use native.Mathlib.Omega.{arith}
 use borrow.Author.Needs.{needs}
-use borrow.Rule.Slice.PartMut.{putMid}
 use lib.ListN.{length, drop, length-map}
 use mir.Syntax.{w16}
 use Rattle.model.specs.Wire.{wire-place}
@@ -18,7 +17,7 @@ put-places-requires c κs =
     record {
       few = omega (arith, c .pre .range .few-corners);
       range = w-small (c .args .corners .now) (c .pre .range .corners);
-      room = search needs
+      room = search needs;
     }
 
 pub returns : need.returns
@@ -39,5 +38,5 @@ returns c =
     let four = and-then (listed w16 place-bytes (map wire-place qs)) (c .put-places .last .out) k three lc (c .put-places .ensures .written) in
     record {
       written = four .is ∙ ap (λ (l : List ℕ). l ++ drop (7 + j + 32 + k) m) (regroup₄ (plane-bytes (c .args .plane)) (listed w16 plane-bytes es) (place-bytes q) (listed w16 place-bytes (map wire-place qs)));
-      long = omega arith
+      long = omega arith;
     }

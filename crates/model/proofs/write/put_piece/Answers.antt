@@ -1,5 +1,5 @@
-use mathlib.Core.Path.{_≡_, ap, sym, _∙_}
-use Prim.Native.Nat.{ℕ, _+_, _*_}
+use mathlib.Core.Path.{_≡_, sym, _∙_}
+use Prim.Native.Nat.{_+_, _*_}
 use native.Mathlib.Omega.{arith}
 use lib.ListN.{length}
 use mir.Syntax.{w16}
@@ -16,5 +16,5 @@ returns c =
     let one = at-first (c .args .out .now) (length-listed w16 plane-bytes 7 length-plane (c .args .planes .now) ∙ sym k) (c .put-planes-at .ensures .written) in
     record {
       written = and-then (place-bytes (wire-place (c .args .place))) (c .put-place .last .out) 32 one (length-place _) (c .put-place .ensures) .is;
-      long = omega arith
+      long = omega arith;
     }

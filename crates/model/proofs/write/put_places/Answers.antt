@@ -1,5 +1,5 @@
 use mathlib.Core.Path.{_≡_, refl, sym, ap, ap₂, _∙_}
-use mathlib.Core.List.{List, map, _++_}
+use mathlib.Core.List.{List, _++_}
 use Prim.Native.Nat.{ℕ, _+_, _*_, _≤_, _<_, _^_}
 use native.Mathlib.Omega.{arith}
 use borrow.Author.Needs.{needs}
@@ -20,14 +20,15 @@ pub put-place-requires : need.put-place-requires
 put-place-requires c κs =
     record {
       range = all-getD (λ (q : Place). q .w < 2 ^ 63) (c .args .places .now) (c .loop-q .q-index) _ (c .loop-q-test .taken) (c .pre .range);
-      room = room-left (c .loop-q .at) (c .loop-q .out) 32 (search needs)
+      room = room-left (c .loop-q .at) (c .loop-q .out) 32 (search needs);
     }
 
 pub loop-q-again : need.loop-q-again
 loop-q-again c =
-    let e : c .loop-q .at ≡ 2 + 32 * c .loop-q .q-index = c .loop-q .inv .0 in
-    (omega arith,
-     listing-more (λ q. place-bytes (wire-place q)) (c .args .places .now) 2 (c .put-short .last .out) (c .loop-q .q-index) _ (c .put-place .last .out) 32 (c .loop-q-test .taken) (c .loop-q .inv .1) (length-place _) (c .put-place .ensures))
+    let e : c .loop-q .at ≡ 2 + 32 * c .loop-q .q-index = c .loop-q .inv .0 in (
+      omega arith,
+      listing-more (λ q. place-bytes (wire-place q)) (c .args .places .now) 2 (c .put-short .last .out) (c .loop-q .q-index) _ (c .put-place .last .out) 32 (c .loop-q-test .taken) (c .loop-q .inv .1) (length-place _) (c .put-place .ensures),
+    )
 
 pub returns : need.returns
 unfolding listed
@@ -39,7 +40,7 @@ returns c =
     let m = c .args .out .now in
     record {
       written =
-        listing-all (λ q. place-bytes (wire-place q)) qs (at-first m (length-count w16 (length qs)) (c .put-short .ensures)) (omega arith) (c .loop-q .inv .1) n
-        ∙ ap₂ (λ (k : ℕ) (l : List ℕ). (count-bytes w16 k ++ l) ++ drop (c .loop-q .at) m) (sym (length-map qs wire-place)) (joined-map place-bytes wire-place qs);
-      long = e ∙ ap (λ (i : ℕ). 2 + 32 * i) k
+          listing-all (λ q. place-bytes (wire-place q)) qs (at-first m (length-count w16 (length qs)) (c .put-short .ensures)) (omega arith) (c .loop-q .inv .1) n
+          ∙ ap₂ (λ (k : ℕ) (l : List ℕ). (count-bytes w16 k ++ l) ++ drop (c .loop-q .at) m) (sym (length-map qs wire-place)) (joined-map place-bytes wire-place qs);
+      long = e ∙ ap (λ (i : ℕ). 2 + 32 * i) k;
     }

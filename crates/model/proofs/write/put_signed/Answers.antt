@@ -1,10 +1,8 @@
 use mathlib.Core.Path.{ap, _∙_, sym}
 use mathlib.Core.List.{List, _++_}
 use Prim.Native.Nat.{ℕ}
-use lib.IntN.{ℤ}
 use lib.ListN.{drop}
 use mir.Syntax.{w64}
-use mir.Val.{ofZ}
 use mir.Facts.{toZ-ofZ}
 use Rattle.model.specs.Format.{signed-bytes}
 use Rattle.model.proofs.Digits.{by-weight}
