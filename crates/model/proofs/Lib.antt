@@ -1,0 +1,12 @@
+pub mod Digits
+pub mod Coding
+pub mod Codes
+pub mod Decodes
+pub mod Things
+pub mod Standing
+pub mod Finding
+pub mod Ends
+pub mod Whole
+pub mod Walks
+pub mod Wires
+pub mod Writes
