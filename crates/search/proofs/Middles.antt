@@ -169,3 +169,72 @@ module _ (x : Axis) (q : Place) where
         let e : m ≡ pos 2 *ℤ t .0 +ℤ pos 1 = t .1 in
         omega (arith, ints)
     ]
+
+    some-same : (u v : ℤ) (o : Option ℤ) → o ≡ Some u → o ≡ Some v → u ≡ v
+    some-same u v o e f = cc
+
+    never : (r : ℤ) → r <ℤ pos 0 → pos 0 <ℤ r → ⊥
+    never r h k = omega (arith, ints)
+
+    module _ (p : Plane) (ps : List Plane) (m : ℤ) (b : Best x ps q m) where
+      -- the plane is of another axis
+      skipped : number-along x p ≡ None → Best x (p ∷ ps) q m
+      skipped e = record {
+        listed = listed-more p ps m (b .listed);
+        under = b .under;
+        splits = all-more p ps m (b .splits) (λ v f. let z : _≡_ {A = ℕ} 0 1 = cc in absurd (omega arith));
+      }
+
+      module _ (u : ℤ) (e : number-along x p ≡ Some u) where
+        -- the plane changes nothing
+        kept : Splits m u (rise x q u) → Best x (p ∷ ps) q m
+        kept s = record {
+          listed = listed-more p ps m (b .listed);
+          under = b .under;
+          splits = all-more p ps m (b .splits) (λ v f. subst (λ (z : ℤ). Splits m z (rise x q z)) (some-same u v (number-along x p) e f) s);
+        }
+
+        -- the plane is the last so far that the place is past
+        later : pos 0 <ℤ rise x q u → m <ℤ (pos 2 *ℤ u +ℤ pos 1) → Best x (p ∷ ps) q (pos 2 *ℤ u +ℤ pos 1)
+        later k l = record {
+          listed = listed-here p ps u e;
+          under = inr (u, refl, k);
+          splits = all-more p ps (pos 2 *ℤ u +ℤ pos 1) (λ r v h f. (λ i. past v i, λ i. let j = b .splits r v h f .1 i in omega (arith, ints)))
+            (λ v f. subst (λ (z : ℤ). Splits (pos 2 *ℤ u +ℤ pos 1) z (rise x q z)) (some-same u v (number-along x p) e f) (λ i. absurd (never (rise x q u) i k), λ i. omega (arith, ints)));
+        }
+          where
+            past : (v : ℤ) → rise x q v <ℤ pos 0 → (pos 2 *ℤ u +ℤ pos 1) <ℤ (pos 2 *ℤ v)
+            past v i =
+                let h : pos 0 ≤ℤ pos (q .w) = omega (arith, ints) in
+                let j : u <ℤ v = between _ (pos (q .w)) u v h k i in
+                omega (arith, ints)
+
+    next : (p : Plane) (ps : List Plane) (m : ℤ) → Best x ps q m → (o : Option ℤ) → number-along x p ≡ o →
+        ((u : ℤ) → o ≡ Some u → Short u offset-limit × (rise x q u ≡ pos 0 → ⊥)) → (n : ℤ) × Best x (p ∷ ps) q n
+    next p ps m b None e f = (m, skipped p ps m b e)
+    next p ps m b (Some u) e f = elim (tri (rise x q u) (pos 0)) [
+      | below k ↦ (m, kept p ps m b u e (λ i. under-below u m (f u refl .0) (b .under) k, λ i. absurd (never (rise x q u) k i)))
+      | same k ↦ absurd (f u refl .1 k)
+      | above k ↦ by-ltZ m (pos 2 *ℤ u +ℤ pos 1)
+          (λ l. (pos 2 *ℤ u +ℤ pos 1, later p ps m b u e k l))
+          (λ l. (m, kept p ps m b u e (λ i. absurd (never (rise x q u) i k), λ i. omega (arith, ints))))
+    ]
+
+    best : (ps : List Plane) → All-level ps → Between x ps q → (m : ℤ) × Best x ps q m
+    best [] a n = (lowest, record { listed = has-here lowest []; under = inl refl; splits = λ p v h. absurd (has-none p h) })
+    best (p ∷ ps) a n =
+        let r = best ps (λ s h. a s (has-there p s ps h)) (λ s v h. n s v (has-there p s ps h)) in
+        next p ps (r .0) (r .1) (number-along x p) refl (λ u e. (number-short x p u (a p (has-here p ps)) e, n p u (has-here p ps) e))
+
+    -- the signs of both
+    signs : (m v r : ℤ) → Splits m v r → (r ≡ pos 0 → ⊥) → sgn (m -ℤ (v *ℤ pos 2)) ≡ sgn r
+    signs m v r s n = elim (tri r (pos 0)) [
+      | below k ↦ let l = s .0 k in says-sgn minus (m -ℤ (v *ℤ pos 2)) (omega (arith, ints)) ∙ sym (says-sgn minus r k)
+      | same k ↦ absurd (n k)
+      | above k ↦ let l = s .1 k in says-sgn plus (m -ℤ (v *ℤ pos 2)) (omega (arith, ints)) ∙ sym (says-sgn plus r k)
+    ]
+
+    pub choose : (ps : List Plane) → All-level ps → Between x ps q → (m : ℤ) × Has (middles x ps) m × Chosen x ps q m
+    choose ps a n =
+        let r = best ps a n in
+        (r .0, r .1 .listed, λ p v h e. signs (r .0) v (rise x q v) (r .1 .splits p v h e) (n p v h e))
