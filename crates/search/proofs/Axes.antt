@@ -199,7 +199,7 @@ slope-turned X p = refl
 slope-turned Y p = refl
 slope-turned Z p = refl
 
-only-turned : (x : Axis) (p : Plane) → Only x p → Only x (turned p)
+pub only-turned : (x : Axis) (p : Plane) → Only x p → Only x (turned p)
 unfolding turned
 only-turned X p o = (ap negℤ (o .0), ap negℤ (o .1))
 only-turned Y p o = (ap negℤ (o .0), ap negℤ (o .1))

@@ -91,6 +91,7 @@ fn write_spots(base: Option<Plane>, planes: &[Plane], axis: Axis, out: &mut [u64
     requires room { ⌜ length (now planes) < length (now out) ⌝ }
     ensures few { λ r. ⌜ r ≤ length (now (planes .entry)) + 1 ⌝ }
     ensures value { λ r. ⌜ numbers (take r (now (out .exit))) ≡ spots base (now (planes .entry)) axis ⌝ }
+    ensures short { λ r. ⌜ All-short (numbers (take r (now (out .exit)))) ⌝ }
 {
     match base_number(base, axis) {
         None => write_middles(planes, axis, out),
