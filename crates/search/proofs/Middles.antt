@@ -102,9 +102,9 @@ module _ (x : Axis) (ps : List Plane) (a : All-level ps) where
       go None e m h = middles-short m h
       go (Some v) e m h = elim (has-either (pos 2 *ℤ v) m [] h) [
         | inl i ↦
-          let s : Short v offset-limit = base-short x o v b e in
-          let k : natAbs v ≤ offset-limit = s .size in
-          subst (λ (z : ℤ). Short z spot-limit) i (record { size = omega (arith, ints) })
+            let s : Short v offset-limit = base-short x o v b e in
+            let k : natAbs v ≤ offset-limit = s .size in
+            subst (λ (z : ℤ). Short z spot-limit) i (record { size = omega (arith, ints) })
         | inr l ↦ absurd (has-none m l)
       ]
 
@@ -164,10 +164,10 @@ module _ (x : Axis) (q : Place) where
     under-below u m s o k = elim o [
       | inl e ↦ let h : natAbs u ≤ offset-limit = s .size in omega (arith, ints)
       | inr t ↦
-        let h : pos 0 ≤ℤ pos (q .w) = omega (arith, ints) in
-        let l : t .0 <ℤ u = between _ (pos (q .w)) (t .0) u h (t .2) k in
-        let e : m ≡ pos 2 *ℤ t .0 +ℤ pos 1 = t .1 in
-        omega (arith, ints)
+          let h : pos 0 ≤ℤ pos (q .w) = omega (arith, ints) in
+          let l : t .0 <ℤ u = between _ (pos (q .w)) (t .0) u h (t .2) k in
+          let e : m ≡ pos 2 *ℤ t .0 +ℤ pos 1 = t .1 in
+          omega (arith, ints)
     ]
 
     some-same : (u v : ℤ) (o : Option ℤ) → o ≡ Some u → o ≡ Some v → u ≡ v
@@ -200,7 +200,7 @@ module _ (x : Axis) (q : Place) where
           listed = listed-here p ps u e;
           under = inr (u, refl, k);
           splits = all-more p ps (pos 2 *ℤ u +ℤ pos 1) (λ r v h f. (λ i. past v i, λ i. let j = b .splits r v h f .1 i in omega (arith, ints)))
-            (λ v f. subst (λ (z : ℤ). Splits (pos 2 *ℤ u +ℤ pos 1) z (rise x q z)) (some-same u v (number-along x p) e f) (λ i. absurd (never (rise x q u) i k), λ i. omega (arith, ints)));
+              (λ v f. subst (λ (z : ℤ). Splits (pos 2 *ℤ u +ℤ pos 1) z (rise x q z)) (some-same u v (number-along x p) e f) (λ i. absurd (never (rise x q u) i k), λ i. omega (arith, ints)));
         }
           where
             past : (v : ℤ) → rise x q v <ℤ pos 0 → (pos 2 *ℤ u +ℤ pos 1) <ℤ (pos 2 *ℤ v)

@@ -1,7 +1,7 @@
 -- The places that stand for all others: those off the planes, or those of a base that are off the planes that cross it.
 --     off-fair, fair-off, but-fair, fair-but         Off and Off-but, as said of each axis
 --     stands-fair, stand-in                          a place that stands is such a place, and each such place has one that stands for it
---     found-all, found-on                            what is found among those that stand, said of all
+--     found-at                                       what is found among those that stand, said of all
 use mathlib.Core.Path.{_≡_, refl, sym, _∙_, ap, subst}
 use mathlib.Core.Bool.{Bool, true, false}
 use mathlib.Core.List.{List, [], _∷_}
@@ -26,8 +26,8 @@ use Rattle.solid.specs.Shapes.{Has}
 use Rattle.solid.proofs.Members.{has-none, has-here, has-either}
 use Rattle.search.specs.declared.levels.Axis.{Axis}
 use Rattle.search.specs.declared.levels.Axis.the-variants.{X, Y, Z}
-use Rattle.search.specs.Search.{Agree, Off, Off-but, By-sides, By-sides-on, Found}
-use Rattle.search.specs.Levels.{Level, All-level, slope-along, coordinate, number-along, base-along, middles, spots-by, spots, halved, Listed, Standing}
+use Rattle.search.specs.Search.{Agree, Off, Off-but, Off-at, By-sides, By-sides-on, By-sides-at, Found}
+use Rattle.search.specs.Levels.{Level, Base-level, All-level, slope-along, coordinate, number-along, base-along, middles, spots-by, spots, halved, Listed, Standing}
 use Rattle.search.proofs.Axes.{axis-of, rise, height-along, on-rise, rise-on, number-none, Only, number-only, only-turned, along-only, ways, same-way-along}
 use Rattle.search.proofs.Middles.{Between, Chosen, odd, choose}
 
@@ -127,9 +127,12 @@ module _ (o : Option Plane) (ps : List Plane) (a : All-level ps) (q : Place) (w 
       go None g = choose x q w ps a g
       go (Some t) g =
           let k : pos 0 <ℤ pos (q .w) = omega (arith, ints) in
-          let l : pos 0 <ℤ pos 2 = omega (arith, ints) in
-          (pos 2 *ℤ t, has-here (pos 2 *ℤ t) [], λ p v h e.
-            ap sgn (twice t v) ∙ sgn-scaled (pos 2) (t -ℤ v) l ∙ sym (sgn-scaled (pos (q .w)) (t -ℤ v) k) ∙ sym (ap sgn (level-with (coordinate x q) (pos (q .w)) t v g)))
+          let l : pos 0 <ℤ pos 2 = omega (arith, ints) in (
+            pos 2 *ℤ t,
+            has-here (pos 2 *ℤ t) [],
+            λ p v h e.
+                ap sgn (twice t v) ∙ sgn-scaled (pos 2) (t -ℤ v) l ∙ sym (sgn-scaled (pos (q .w)) (t -ℤ v) k) ∙ sym (ap sgn (level-with (coordinate x q) (pos (q .w)) t v g)),
+          )
 
   stand : Place
   stand = halved (pick X .0) (pick Y .0) (pick Z .0)
@@ -171,21 +174,25 @@ found-wider C D f (Some q) g h s = (g q (s .0), s .1, s .2)
 stands-real : (o : Option Plane) (ps : List Plane) (q : Place) → Standing o ps q → 0 < q .w
 stands-real o ps q s = let e : q .w ≡ 2 = s .w in omega arith
 
-pub found-all : (ps : List Plane) (f : Place → Bool) (o : Option Place) → All-level ps → By-sides ps f → Found (Standing None ps) f o → Found (Off ps) f o
+found-all : (ps : List Plane) (f : Place → Bool) (o : Option Place) → All-level ps → By-sides ps f → Found (Standing None ps) f o → Found (Off ps) f o
 found-all ps f o a d =
     found-wider (Standing None ps) (Off ps) f o
     (λ q s. fair-off ps a q (stands-real None ps q s) (stands-fair None ps q s))
     (λ q k.
-      let r = stand-in None ps a q (k .real) (off-fair ps a q k) in
-      (r .0, r .1, d q (r .0) (k .real) (stands-real None ps (r .0) (r .1)) (r .2)))
+    let r = stand-in None ps a q (k .real) (off-fair ps a q k) in
+    (r .0, r .1, d q (r .0) (k .real) (stands-real None ps (r .0) (r .1)) (r .2)))
 
-pub found-on : (ps : List Plane) (b : Plane) (f : Place → Bool) (o : Option Place) → All-level ps → Level b → By-sides-on ps b f → Found (Standing (Some b) ps) f o → Found (Off-but ps b) f o
+found-on : (ps : List Plane) (b : Plane) (f : Place → Bool) (o : Option Place) → All-level ps → Level b → By-sides-on ps b f → Found (Standing (Some b) ps) f o → Found (Off-but ps b) f o
 found-on ps b f o a l d =
     found-wider (Standing (Some b) ps) (Off-but ps b) f o
     off
     (λ q k.
-      let r = stand-in (Some b) ps a q (k .real) (but-fair ps a b l q k) in
-      (r .0, r .1, d q (r .0) (k .real) (stands-real (Some b) ps (r .0) (r .1)) (k .on-it) (off (r .0) (r .1) .on-it) (r .2)))
+    let r = stand-in (Some b) ps a q (k .real) (but-fair ps a b l q k) in
+    (r .0, r .1, d q (r .0) (k .real) (stands-real (Some b) ps (r .0) (r .1)) (k .on-it) (off (r .0) (r .1) .on-it) (r .2)))
   where
     off : (q : Place) → Standing (Some b) ps q → Off-but ps b q
     off q s = fair-but ps a b l q (stands-real (Some b) ps q s) (stands-fair (Some b) ps q s)
+
+pub found-at : (b : Option Plane) (ps : List Plane) (f : Place → Bool) (o : Option Place) → Base-level b → All-level ps → By-sides-at b ps f → Found (Standing b ps) f o → Found (Off-at b ps) f o
+found-at None ps f o l a d = found-all ps f o a d
+found-at (Some b) ps f o l a d = found-on ps b f o a (l b refl .1) d

@@ -3,9 +3,10 @@ use mathlib.Core.Path.{_≡_}
 use mathlib.Core.Bool.{Bool, true, false}
 use mathlib.Core.List.{List}
 use mathlib.Core.Logic.{_⊎_}
-use Prim.Native.Nat.{_<_}
+use Prim.Native.Nat.{ℕ, _+_, _*_, _<_}
 use Rattle.std.specs.Options.{Cases}
 use Rattle.std.specs.declared.option.Option.{Option}
+use Rattle.std.specs.declared.option.Option.the-variants.{Some, None}
 use Rattle.plane.specs.declared.types.Plane.{Plane}
 use Rattle.plane.specs.declared.types.Place.{Place}
 use Rattle.plane.specs.Limits.{Small-place}
@@ -39,6 +40,19 @@ By-sides ps f = (q r : Place) → 0 < q .w → 0 < r .w → Agree ps q r → f q
 abbrev pub By-sides-on : List Plane → Plane → (Place → Bool) → Type 0
 By-sides-on ps p f = (q r : Place) → 0 < q .w → 0 < r .w → on p q ≡ true → on p r ≡ true → Agree ps q r → f q ≡ f r
 
+-- both, with a base or without one
+abbrev pub Off-at : Option Plane → List Plane → Place → Type 0
+Off-at None ps q = Off ps q
+Off-at (Some p) ps q = Off-but ps p q
+
+abbrev pub By-sides-at : Option Plane → List Plane → (Place → Bool) → Type 0
+By-sides-at None ps f = By-sides ps f
+By-sides-at (Some p) ps f = By-sides-on ps p f
+
 -- what is found among some places: one for which it holds, or that it holds for none
 abbrev pub Found : (Place → Type 0) → (Place → Bool) → Option Place → Type 0
 Found C f o = Cases o ((q : Place) → C q → f q ≡ false) (λ q. C q × (f q ≡ true) × Small-place q)
+
+-- how many words are lent for so many planes
+abbrev pub lent-words : ℕ → ℕ
+lent-words n = 3 * (n + 1)

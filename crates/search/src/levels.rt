@@ -1,8 +1,7 @@
 //! What is special to level planes: the numbers of x, y and z that stand for all, and a walk over them.
 
 ghost use mathlib.Core.Path.{_≡_};
-ghost use mathlib.Core.List.{map};
-ghost use Prim.Native.Nat.{ℕ, _+_, _*_, _<_, _≤_};
+ghost use Prim.Native.Nat.{_+_, _<_, _≤_};
 ghost use lib.IntN.{pos, _+ℤ_, _*ℤ_};
 ghost use lib.ListN.{length, take};
 ghost use mir.Syntax.{w64};
@@ -10,7 +9,7 @@ ghost use mir.Val.{toZ};
 ghost use Rattle.arith.specs.Bounds.{Short};
 ghost use Rattle.plane.specs.Limits.{Fits-plane, Small-place, slope-limit, offset-limit};
 ghost use Rattle.search.specs.Levels.{All-level, Base-level, slope-along, number-along, base-along, numbers, middles, spots, spot-limit, halved, All-short, Listed, Standing};
-ghost use Rattle.search.specs.Search.{Found};
+ghost use Rattle.search.specs.Search.{Off-at, By-sides-at, Found, lent-words};
 use super::places::Question;
 use plane::types::OFFSET_LIMIT;
 use plane::types::Place;
@@ -119,7 +118,13 @@ fn place_of(x: u64, y: u64, z: u64) -> Place
 }
 
 /// A place for which the question holds, with doubled coordinates of three lists.
-pub(crate) fn first_of<Q: Question>(question: &Q, xs: &[u64], ys: &[u64], zs: &[u64], work: &mut [u64]) -> Option<Place>
+fn first_of<Q: Question>(
+    question: &Q,
+    xs: &[u64],
+    ys: &[u64],
+    zs: &[u64],
+    work: &mut [u64],
+) -> Option<Place>
     requires ready { ⌜ ready (now question) (length (now work)) ⌝ }
     requires x { ⌜ All-short (numbers (now xs)) ⌝ }
     requires y { ⌜ All-short (numbers (now ys)) ⌝ }
@@ -141,12 +146,18 @@ pub(crate) fn first_of<Q: Question>(question: &Q, xs: &[u64], ys: &[u64], zs: &[
     found
 }
 
-/// A place for which the question holds, among those that stand for all places of the base, or for all places.
-pub(crate) fn search<Q: Question>(question: &Q, base: Option<Plane>, planes: &[Plane], lent: &mut [u64], work: &mut [u64]) -> Option<Place>
+/// A place for which the question holds, among those that stand for all.
+fn walk<Q: Question>(
+    question: &Q,
+    base: Option<Plane>,
+    planes: &[Plane],
+    lent: &mut [u64],
+    work: &mut [u64],
+) -> Option<Place>
     requires ready { ⌜ ready (now question) (length (now work)) ⌝ }
     requires base { ⌜ Base-level base ⌝ }
     requires level { ⌜ All-level (now planes) ⌝ }
-    requires room { ⌜ 3 * (length (now planes) + 1) ≤ length (now lent) ⌝ }
+    requires room { ⌜ lent-words (length (now planes)) ≤ length (now lent) ⌝ }
     ensures { λ r. ⌜ Found (Standing base (now (planes .entry))) (asked (now (question .entry))) r ⌝ }
 {
     let each = planes.len() + 1;
@@ -156,4 +167,22 @@ pub(crate) fn search<Q: Question>(question: &Q, base: Option<Plane>, planes: &[P
     let j = write_spots(base, planes, Axis::Y, ys);
     let k = write_spots(base, planes, Axis::Z, zs);
     first_of(question, &xs[..i], &ys[..j], &zs[..k], work)
+}
+
+/// A place for which the question holds, off the planes, or on the base and off those that cross it.
+pub(crate) fn search<Q: Question>(
+    question: &Q,
+    base: Option<Plane>,
+    planes: &[Plane],
+    lent: &mut [u64],
+    work: &mut [u64],
+) -> Option<Place>
+    requires ready { ⌜ ready (now question) (length (now work)) ⌝ }
+    requires base { ⌜ Base-level base ⌝ }
+    requires level { ⌜ All-level (now planes) ⌝ }
+    requires sides { ⌜ By-sides-at base (now planes) (asked (now question)) ⌝ }
+    requires room { ⌜ lent-words (length (now planes)) ≤ length (now lent) ⌝ }
+    ensures { λ r. ⌜ Found (Off-at base (now (planes .entry))) (asked (now (question .entry))) r ⌝ }
+{
+    walk(question, base, planes, lent, work)
 }

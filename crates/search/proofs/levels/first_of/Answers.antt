@@ -27,10 +27,10 @@ holds-at-requires g c κs =
     }
 
 pub loop-z-again : need.loop-z-again
-loop-z-again g c =
-    ( c .loop-z .inv .0
-    , below-more _ _ (c .loop-z .inv .1) (ap (g .Q·Question .asked (c .args .question .now)) (sym (c .place-of-q .ensures .value)) ∙ sym (c .if-holds-at .ensures tt))
-    )
+loop-z-again g c = (
+  c .loop-z .inv .0,
+  below-more _ _ (c .loop-z .inv .1) (ap (g .Q·Question .asked (c .args .question .now)) (sym (c .place-of-q .ensures .value)) ∙ sym (c .if-holds-at .ensures tt)),
+)
 
 pub search-again : need.search-again
 search-again g c =
@@ -42,9 +42,9 @@ returns-after-search g c =
     (listed-none (g .Q·Question .asked (c .args .question .now)) (c .args .xs .now) (c .args .ys .now) (c .args .zs .now) (λ i h. c .search .inv .1 i (omega arith)))
 
 pub returns-then-holds-at : need.returns-then-holds-at
-returns-then-holds-at g c =
-    ( subst (λ (q : Place). Listed (numbers (c .args .xs .now)) (numbers (c .args .ys .now)) (numbers (c .args .zs .now)) q) (sym (c .place-of-q .ensures .value))
-        (spot-listed (c .args .xs .now) (c .args .ys .now) (c .args .zs .now) (c .search .x-index) (c .loop-y .y-index) (c .loop-z .z-index) (c .search-test .taken) (c .loop-y-test .taken) (c .loop-z-test .taken))
-    , sym (c .if-holds-at .ensures tt)
-    , c .place-of-q .ensures .small
-    )
+returns-then-holds-at g c = (
+  subst (λ (q : Place). Listed (numbers (c .args .xs .now)) (numbers (c .args .ys .now)) (numbers (c .args .zs .now)) q) (sym (c .place-of-q .ensures .value))
+      (spot-listed (c .args .xs .now) (c .args .ys .now) (c .args .zs .now) (c .search .x-index) (c .loop-y .y-index) (c .loop-z .z-index) (c .search-test .taken) (c .loop-y-test .taken) (c .loop-z-test .taken)),
+  sym (c .if-holds-at .ensures tt),
+  c .place-of-q .ensures .small,
+)

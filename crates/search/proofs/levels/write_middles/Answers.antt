@@ -33,18 +33,18 @@ loop-p-again c =
     let h = has-read (c .args .planes .now) (c .loop-p .p-index) _ (c .loop-p-test .taken) in
     elim (c .match-number-of .came) [
       | in-Some w ↦
-          let b = is-num (number-short (c .args .axis) _ (w .in-Some .v) (c .pre .level _ h) (sym (w .in-Some .ensures tt))) tt in
-          ( omega (arith, w .n-is)
-          , ap₂ (λ (n : ℕ) (ws : List ℕ). numbers (take n ws)) (w .n-is) (w .out-is)
-            ∙ one-more (c .args .axis) (c .args .planes .now) (c .loop-p .p-index) _ (c .loop-p-test .taken) (c .loop-p .out) (c .loop-p .n) k (c .loop-p .inv .1)
-              (w .in-Some .v) (w .middle-behind .result) (sym (w .in-Some .ensures tt)) (w .middle-behind .ensures ∙ ap (λ (v : ℤ). pos 2 *ℤ v +ℤ pos 1) (b .same))
+          let b = is-num (number-short (c .args .axis) _ (w .in-Some .v) (c .pre .level _ h) (sym (w .in-Some .ensures tt))) tt in (
+            omega (arith, w .n-is),
+            ap₂ (λ (n : ℕ) (ws : List ℕ). numbers (take n ws)) (w .n-is) (w .out-is)
+                ∙ one-more (c .args .axis) (c .args .planes .now) (c .loop-p .p-index) _ (c .loop-p-test .taken) (c .loop-p .out) (c .loop-p .n) k (c .loop-p .inv .1)
+                (w .in-Some .v) (w .middle-behind .result) (sym (w .in-Some .ensures tt)) (w .middle-behind .ensures ∙ ap (λ (v : ℤ). pos 2 *ℤ v +ℤ pos 1) (b .same)),
           )
-      | in-rest w ↦
-          ( omega (arith, w .n-is)
-          , ap₂ (λ (n : ℕ) (ws : List ℕ). numbers (take n ws)) (w .n-is) (w .out-is)
+      | in-rest w ↦ (
+        omega (arith, w .n-is),
+        ap₂ (λ (n : ℕ) (ws : List ℕ). numbers (take n ws)) (w .n-is) (w .out-is)
             ∙ none-more (c .args .axis) (c .args .planes .now) (c .loop-p .p-index) _ (c .loop-p-test .taken) (c .loop-p .out) (c .loop-p .n) k (c .loop-p .inv .1)
-              (sym (w .in-rest .ensures tt))
-          )
+            (sym (w .in-rest .ensures tt)),
+      )
     ]
 
 pub returns : need.returns

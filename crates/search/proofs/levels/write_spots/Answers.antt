@@ -29,9 +29,9 @@ pub returns-in-Some : need.returns-in-Some
 returns-in-Some c =
     let i = is-num (base-short (c .args .axis) (c .args .base) (c .in-Some .v) (c .pre .base) (sym (c .in-Some .ensures tt))) tt in
     let e : numbers (take 1 (set (c .args .out .now) 0 (c .cast-unsigned .result))) ≡ spots (c .args .base) (c .args .planes .now) (c .args .axis) =
-        numbers-none (c .args .out .now) (c .cast-unsigned .result) (omega arith)
-        ∙ ap (λ (m : ℤ). m ∷ []) (ap (toZ w64) (c .cast-unsigned .ensures) ∙ is-back (is-back (is-mul (is-pos {k = 2} {n = 2} (lit≤ tt)) i) tt) tt .same)
-        ∙ ap (λ (o : Option ℤ). spots-by o (middles (c .args .axis) (c .args .planes .now))) (c .in-Some .ensures tt) in
+    numbers-none (c .args .out .now) (c .cast-unsigned .result) (omega arith)
+    ∙ ap (λ (m : ℤ). m ∷ []) (ap (toZ w64) (c .cast-unsigned .ensures) ∙ is-back (is-back (is-mul (is-pos {k = 2} {n = 2} (lit≤ tt)) i) tt) tt .same)
+    ∙ ap (λ (o : Option ℤ). spots-by o (middles (c .args .axis) (c .args .planes .now))) (c .in-Some .ensures tt) in
     record {
       few = omega arith;
       value = e;
