@@ -1,14 +1,15 @@
 -- Level planes by their axis.
 --     number-some, number-slope, number-is           the number of a plane along an axis
 --     slope-size, number-short, base-short           how large slopes and numbers are
+--     turned-level                                   a level plane turned round is level
 --     axis-of                                        each level plane has an axis
 --     rise, height-along                             how far a place is past a number, and the plane's height by that
 --     on-rise, rise-on                               on the plane: at its number
 --     along-only, way, ways, same-way-along          level planes of one axis lie the same way, or turned
-use mathlib.Core.Path.{_≡_, refl, sym, _∙_, ap, subst}
+use mathlib.Core.Path.{_≡_, refl, sym, _∙_, ap, ap₂, subst}
 use mathlib.Core.Bool.{true, _&&_}
 use mathlib.Core.Logic.{_⊎_, inl, inr}
-use Prim.Native.Nat.{ℕ, zero, suc, _≤_}
+use Prim.Native.Nat.{ℕ, zero, suc, _+_, _≤_}
 use native.Mathlib.Omega.{arith}
 use lib.IntN.{ℤ, pos, negsuc, negℤ, natAbs, _-ℤ_, _*ℤ_, *ℤ-zero}
 use lib.Signed.{ltZ, _<ℤ_}
@@ -198,6 +199,15 @@ unfolding turned
 slope-turned X p = refl
 slope-turned Y p = refl
 slope-turned Z p = refl
+
+size-neg : (z : ℤ) → natAbs (negℤ z) ≡ natAbs z
+size-neg (pos zero) = refl
+size-neg (pos (suc n)) = refl
+size-neg (negsuc n) = refl
+
+pub turned-level : (p : Plane) → Level p → Level (turned p)
+unfolding turned
+turned-level p l = ap₂ _+_ (ap₂ _+_ (size-neg (p .a)) (size-neg (p .b))) (size-neg (p .c)) ∙ l
 
 pub only-turned : (x : Axis) (p : Plane) → Only x p → Only x (turned p)
 unfolding turned

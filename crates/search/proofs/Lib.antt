@@ -1,4 +1,6 @@
 pub mod Axes
-pub mod Middles
-pub mod Walks
-pub mod Standing
+mod Middles
+mod Walks
+mod Standing
+pub mod Agreeing
+pub mod Boxes
