@@ -1,0 +1,3 @@
+//! The model of a part that is one box: its piece and its faces.
+
+pub mod types;
