@@ -59,7 +59,7 @@ module _ (w : ℕ) (real : 0 < w) where
   w-positive : pos 0 <ℤ pos w
   w-positive = omega (arith, ints)
 
-  lt-scaled : (a b : ℤ) → ltZ (a *ℤ pos w) (b *ℤ pos w) ≡ ltZ a b
+  pub lt-scaled : (a b : ℤ) → ltZ (a *ℤ pos w) (b *ℤ pos w) ≡ ltZ a b
   lt-scaled a b =
       by-ltZ a b
       (λ h. lt-yes (a *ℤ pos w) (b *ℤ pos w) (mul-lt a b (pos w) h w-positive) ∙ sym (lt-yes a b h))

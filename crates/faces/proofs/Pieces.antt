@@ -1,0 +1,2 @@
+-- The piece of a block is right.
+use mathlib.Core.Path.{_≡_, refl}
