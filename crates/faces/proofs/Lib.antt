@@ -4,3 +4,4 @@ pub mod Sixfold
 pub mod Thickness
 pub mod Ranges
 pub mod Pieces
+pub mod Ends

@@ -44,7 +44,7 @@ module _ (q : Place) (real : 0 < q .w) where
       ap (λ t. cond t (n *ℤ pos (q .w)) (m *ℤ pos (q .w))) (lt-scaled (q .w) real n m) ∙ times-cond (ltZ n m) n m (pos (q .w))
 
   -- below two planes that look the same way: below the one that comes first
-  below-both : (e : Way) (m n : ℤ) → (below (toward e n) q && below (toward e m) q) ≡ below (toward e (minZ m n)) q
+  pub below-both : (e : Way) (m n : ℤ) → (below (toward e n) q && below (toward e m) q) ≡ below (toward e (minZ m n)) q
   below-both e m n =
       let w = pos (q .w) in
       ap₂ _&&_ (below-far e n q) (below-far e m q) ∙ lt-min (far e q) (m *ℤ w) (n *ℤ w) ∙ ap (λ t. ltZ (far e q) t) (min-scaled m n) ∙ sym (below-far e (minZ m n) q)
