@@ -1,3 +1,4 @@
+pub mod Lists
 pub mod Ways
 pub mod Sides
 pub mod Sixfold
@@ -5,3 +6,5 @@ pub mod Thickness
 pub mod Ranges
 pub mod Pieces
 pub mod Ends
+pub mod Turns
+pub mod Corners

@@ -21,9 +21,10 @@ use Rattle.plane.specs.Limits.{reach, Small-place}
 use Rattle.plane.specs.Planes.{below, on}
 use Rattle.solid.specs.Shapes.{Shape, box, by, holds, planes, solid, Has, Clear}
 use Rattle.solid.specs.Models.{Piece, Right-pieces, in-pieces, all-below, Ours}
-use Rattle.solid.proofs.Members.{has-none, has-either, map-has}
+use Rattle.solid.proofs.Members.{has-none, map-has}
 use Rattle.faces.specs.declared.types.Block.{Block}
 use Rattle.faces.specs.Blocks.{as-shape, cut, thick, block-piece}
+use Rattle.faces.proofs.Lists.{each-of}
 use Rattle.faces.proofs.Ways.{Way, east, west, north, south, up, down, ways, opp, toward, far, top, bot, top-cut, planes-ways}
 use Rattle.faces.proofs.Sides.{lt-min, lt-scaled, below-far}
 use Rattle.faces.proofs.Sixfold.{all-ways, all-ways-split, all-ways-each, each-all-ways, all-ways-same, by-solid, has-solid, solid-has}
@@ -110,7 +111,7 @@ module _ (b : Block) where
         inl (subst (λ (r : Plane). Has (planes (solid (as-shape b))) r) (m .2) (solid-has b (m .0)))
 
     only : (P : Piece → Type 0) → P (block-piece (cut b)) → (d : Piece) → Has (block-piece (cut b) ∷ []) d → P d
-    only P p d h = elim (has-either (block-piece (cut b)) d [] h) [ inl e ↦ subst P e p | inr k ↦ absurd (has-none d k) ]
+    only P p d h = each-of P (block-piece (cut b) ∷ []) (p, tt) d h
 
     pub right-piece : Right-pieces (solid (as-shape b)) (block-piece (cut b) ∷ [])
     unfolding in-pieces block-piece

@@ -122,7 +122,7 @@ turned-toward south d = refl
 turned-toward up d = refl
 turned-toward down d = refl
 
-weight-far : (e : Way) (q : Place) → weight (normal e) (q .x) (q .y) (q .z) ≡ far e q
+pub weight-far : (e : Way) (q : Place) → weight (normal e) (q .x) (q .y) (q .z) ≡ far e q
 weight-far east q = omega (arith, ints)
 weight-far west q = omega (arith, ints)
 weight-far north q = omega (arith, ints)
