@@ -25,7 +25,7 @@ use Rattle.solid.proofs.Members.{map-has, has-map}
 use Rattle.faces.specs.declared.types.Block.{Block}
 use Rattle.faces.proofs.Lists.{each-of}
 use Rattle.faces.proofs.Ways.{Way, east, west, north, south, up, down, opp, first, second, toward, normal, far, top, bot, bot-top, far-opp, height-far, rim, rectangle, seen, Made}
-use Rattle.faces.proofs.Sides.{on-far}
+use Rattle.faces.proofs.Sides.{same-yes, same-says, on-far}
 use Rattle.faces.proofs.Thickness.{Reaches}
 use Rattle.faces.proofs.Turns.{turn, turn-seen, spot, turns-positive}
 
@@ -71,10 +71,6 @@ flat-all up = (refl, refl)
 flat-all down = (refl, refl)
 
 -- ---- a corner
-same-yes : (m n : ℤ) → m ≡ n → sameZ m n ≡ true
-unfolding sameZ
-same-yes m n e = grind (arith, ints)
-
 same-no : (m n : ℤ) → not (sameZ m n) ≡ true → m ≡ n → ⊥
 same-no m n h e = true≢false (sym (same-yes m n e) ∙ not-true (sameZ m n) h)
 
@@ -131,10 +127,6 @@ pub record Mark (b : Block) (g : Way) (v : Place) (r : Plane) : Type 0 where
   pub which : Bool
   pub is : side b g which ≡ r
   pub far-is : far g v ≡ end which b g *ℤ pos (v .w)
-
-same-says : (m n : ℤ) → sameZ m n ≡ true → m ≡ n
-unfolding sameZ
-same-says m n h = grind (arith, ints)
 
 far-neg : (f h t u w : ℤ) → u ≡ negℤ t → h ≡ negℤ f → h ≡ t *ℤ w → f ≡ u *ℤ w
 far-neg = solve 5 (λ f h t u w. negE w · u := negE t ⇒ con (pos 1) · h := negE f ⇒ con (negsuc 0) · h := t :* w ⇒ f := u :* w) refl

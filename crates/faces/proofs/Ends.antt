@@ -24,7 +24,7 @@ use Rattle.solid.specs.Models.{in-faces, all-below}
 use Rattle.faces.specs.declared.types.Block.{Block}
 use Rattle.faces.specs.Blocks.{as-shape, cut, thick, block-faces, high-face, low-face, rolled-face}
 use Rattle.faces.proofs.Ways.{Way, east, west, north, south, up, down, opp, first, second, toward, normal, far, top, bot, bot-top, top-cut, turned-toward, rim}
-use Rattle.faces.proofs.Sides.{lt-says, lt-min, le-min, on-far, on-at, below-same, below-opp, below-across, above-same, above-opp, above-across}
+use Rattle.faces.proofs.Sides.{lt-says, same-says, lt-min, le-min, on-far, on-at, below-same, below-opp, below-across, above-same, above-opp, above-across}
 use Rattle.faces.proofs.Sixfold.{all-ways, across, all-ways-split, across-same, by-solid, has-solid}
 use Rattle.faces.proofs.Thickness.{Reaches, way-thick, squeezed}
 use Rattle.faces.proofs.Pieces.{under, below-both}
@@ -56,10 +56,6 @@ in-faces-way b up d q = omega arith
 in-faces-way b down d q = omega arith
 
 -- ---- the value just below and just above a place on a plane that looks a way
-same-says : (m n : ℤ) → sameZ m n ≡ true → m ≡ n
-unfolding sameZ
-same-says m n h = grind (arith, ints)
-
 module _ (b : Block) (e : Way) (d : ℤ) (q : Place) (real : 0 < q .w) (met : on (toward e d) q ≡ true) where
   pub exact : far e q ≡ d *ℤ pos (q .w)
   exact = same-says (far e q) (d *ℤ pos (q .w)) (sym (on-far e d q) ∙ met)

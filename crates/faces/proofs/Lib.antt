@@ -8,3 +8,4 @@ pub mod Pieces
 pub mod Ends
 pub mod Turns
 pub mod Corners
+pub mod Faces

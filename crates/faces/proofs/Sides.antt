@@ -51,6 +51,14 @@ lt-no a b h = grind (arith, ints)
 pub lt-says : (a b : ℤ) → ltZ a b ≡ true → a <ℤ b
 lt-says a b h = grind (arith, ints)
 
+pub same-yes : (a b : ℤ) → a ≡ b → sameZ a b ≡ true
+unfolding sameZ
+same-yes a b h = grind (arith, ints)
+
+pub same-says : (a b : ℤ) → sameZ a b ≡ true → a ≡ b
+unfolding sameZ
+same-says a b h = grind (arith, ints)
+
 le-not : (a b : ℤ) → leZ a b ≡ not (ltZ b a)
 le-not a b = grind (arith, ints)
 
