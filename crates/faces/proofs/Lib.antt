@@ -1,4 +1,5 @@
 pub mod Lists
+pub mod Built
 pub mod Ways
 pub mod Sides
 pub mod Sixfold

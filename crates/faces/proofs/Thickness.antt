@@ -1,14 +1,16 @@
 -- A block is thick if it reaches further than where it begins, each way.
 --     way-thick, thick-way                          the test, and what it says of each way
---     cut-fits                                      what is left in the workshop is in range
+--     cut-fits, left-fits                           what is left in the workshop is in range
 --     squeezed                                      a place between two planes across a way
 --     below-inside, off-inside                      a place that is less far than the block reaches
 use mathlib.Core.Path.{_≡_, refl, sym, _∙_, ap, subst}
-use mathlib.Core.Bool.{Bool, true, false, _&&_}
+use mathlib.Core.Bool.{Bool, true, false, cond, _&&_}
 use native.Mathlib.Omega.{arith}
 use Prim.Native.Nat.{ℕ, _<_}
 use lib.IntN.{ℤ, pos, negℤ, _*ℤ_}
 use lib.Signed.{ltZ, _<ℤ_, _≤ℤ_}
+use Rattle.std.specs.Options.{Cases}
+use Rattle.std.specs.declared.option.Option.the-variants.{Some, None}
 use Rattle.std.proofs.shelf.Signed.{ints, clamps}
 use Rattle.std.proofs.shelf.Tests.{and-parts, and-from}
 use Rattle.arith.proofs.Order.{mul-le}
@@ -17,7 +19,7 @@ use Rattle.plane.specs.declared.types.Place.{Place}
 use Rattle.plane.specs.Limits.{reach}
 use Rattle.plane.specs.Planes.{sameZ, below, on}
 use Rattle.faces.specs.declared.types.Block.{Block}
-use Rattle.faces.specs.Blocks.{low-end, high-end, cut, thick, Span, Fits-block}
+use Rattle.faces.specs.Blocks.{low-end, high-end, cut, thick, left-of, Span, Fits-block}
 use Rattle.faces.proofs.Ways.{Way, east, west, north, south, up, down, opp, first, second, toward, far, top, bot, bot-top, far-opp}
 use Rattle.faces.proofs.Sides.{lt-yes, lt-says, lt-scaled, below-far, on-far}
 
@@ -61,6 +63,15 @@ cut-fits b h =
     let k = and-parts _ _ h in
     let l = and-parts _ _ (k .1) in
     record { x = cut-span (b .x0) (b .x1) (k .0); y = cut-span (b .y0) (b .y1) (l .0); z = cut-span (b .z0) (b .z1) (l .1) }
+
+-- what is left, if anything
+pub left-fits : (b : Block) → Cases (left-of b) (Unit {0}) Fits-block
+unfolding left-of
+left-fits b = go (thick (cut b)) refl
+  where
+    go : (t : Bool) → thick (cut b) ≡ t → Cases (cond t (Some (cut b)) None) (Unit {0}) Fits-block
+    go true h = cut-fits b h
+    go false h = tt
 
 -- ---- places
 between : (u v f g h : ℤ) → u ≡ negℤ h → g ≡ negℤ f → f <ℤ v → g <ℤ h → u <ℤ v
