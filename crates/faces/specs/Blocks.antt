@@ -7,6 +7,7 @@ use Rattle.std.specs.Numbers.{maxZ, minZ}
 use Rattle.std.specs.shelf.Lists.{All}
 use Rattle.std.specs.declared.option.Option.{Option}
 use Rattle.std.specs.declared.option.Option.the-variants.{Some, None}
+use Rattle.plane.specs.declared.types.Place.{Place}
 use Rattle.plane.specs.Limits.{reach, Fits-plane, Small-place}
 use Rattle.plane.specs.Moves.{rolled-plane, rolled-place}
 use Rattle.solid.specs.Shapes.{Shape, box, planes, plane}
@@ -42,20 +43,27 @@ left-of b = cond (thick (cut b)) (Some (cut b)) None
 unfoldable pub block-piece : Block → Piece
 block-piece b = record { planes = planes (as-shape b); place = at (b .x0 +ℤ b .x1) (b .y0 +ℤ b .y1) (b .z0 +ℤ b .z1) 2 }
 
--- the face that looks toward more x, and the one that looks toward less: the edges, the middle, and the corners counter-clockwise
+-- in the middle of a face at x, and round it: counter-clockwise, seen from more x
+abbrev pub middle-at : Block → ℤ → Place
+middle-at b x = at (x +ℤ x) (b .y0 +ℤ b .y1) (b .z0 +ℤ b .z1) 2
+
+abbrev pub round-at : Block → ℤ → List Place
+round-at b x = at x (b .y0) (b .z0) 1 ∷ at x (b .y1) (b .z0) 1 ∷ at x (b .y1) (b .z1) 1 ∷ at x (b .y0) (b .z1) 1 ∷ []
+
+-- the face that looks toward more x, and the one that looks toward less
 unfoldable pub high-face : Block → Face
 high-face b = record {
   plane = plane (pos 1) (pos 0) (pos 0) (b .x1);
   edges = plane (pos 0) (pos 1) (pos 0) (b .y1) ∷ plane (pos 0) (negℤ (pos 1)) (pos 0) (negℤ (b .y0)) ∷ plane (pos 0) (pos 0) (pos 1) (b .z1) ∷ plane (pos 0) (pos 0) (negℤ (pos 1)) (negℤ (b .z0)) ∷ [];
-  place = at (b .x1 +ℤ b .x1) (b .y0 +ℤ b .y1) (b .z0 +ℤ b .z1) 2;
-  corners = at (b .x1) (b .y0) (b .z0) 1 ∷ at (b .x1) (b .y1) (b .z0) 1 ∷ at (b .x1) (b .y1) (b .z1) 1 ∷ at (b .x1) (b .y0) (b .z1) 1 ∷ [];
+  place = middle-at b (b .x1);
+  corners = round-at b (b .x1);
 }
 
 unfoldable pub low-face : Block → Face
 low-face b = record {
   plane = plane (negℤ (pos 1)) (pos 0) (pos 0) (negℤ (b .x0));
   edges = plane (pos 0) (pos 0) (pos 1) (b .z1) ∷ plane (pos 0) (pos 0) (negℤ (pos 1)) (negℤ (b .z0)) ∷ plane (pos 0) (pos 1) (pos 0) (b .y1) ∷ plane (pos 0) (negℤ (pos 1)) (pos 0) (negℤ (b .y0)) ∷ [];
-  place = at (b .x0 +ℤ b .x0) (b .y0 +ℤ b .y1) (b .z0 +ℤ b .z1) 2;
+  place = middle-at b (b .x0);
   corners = at (b .x0) (b .y0) (b .z0) 1 ∷ at (b .x0) (b .y0) (b .z1) 1 ∷ at (b .x0) (b .y1) (b .z1) 1 ∷ at (b .x0) (b .y1) (b .z0) 1 ∷ [];
 }
 
