@@ -1,0 +1,12 @@
+pub mod Lists
+pub mod Built
+pub mod Ways
+pub mod Sides
+pub mod Sixfold
+pub mod Thickness
+pub mod Ranges
+pub mod Pieces
+pub mod Ends
+pub mod Turns
+pub mod Corners
+pub mod Faces
