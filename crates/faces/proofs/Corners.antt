@@ -137,7 +137,7 @@ mark b g false v h = record {
   which = false;
   is = refl;
   far-is = far-neg (far g v) (far (opp g) v) (top b (opp g)) (bot b g) (pos (v .w)) (bot-top b g) (far-opp g v)
-    (same-says (far (opp g) v) (top b (opp g) *ℤ pos (v .w)) (sym (on-far (opp g) (top b (opp g)) v) ∙ h));
+      (same-says (far (opp g) v) (top b (opp g) *ℤ pos (v .w)) (sym (on-far (opp g) (top b (opp g)) v) ∙ h));
 }
 
 marked : (b : Block) (e : Way) (v : Place) (r : Plane) → Has (rim b e) r → on r v ≡ true → Mark b (first e) v r ⊎ Mark b (second e) v r
@@ -248,9 +248,11 @@ module _ (b : Block) (e : Way) (f : Face) (made : Made b e f) where
 
   in-order : (n : ℕ) (q : Place) → At (f .corners) n q → (n < 4) × (seen e q ≡ place-of n)
   in-order n q k =
-      let h : n < 4 = subst (λ (m : ℕ). n < m) four (k .0) in
-      (h, sym (ap (seen e) (k .1)) ∙ sym (List·getD-map (seen e) (f .corners) n q) ∙ ap (λ (l : List Place). getD l n (seen e q)) (made .corners)
-      ∙ getD-default round n (seen e q) (place-of 0) h)
+      let h : n < 4 = subst (λ (m : ℕ). n < m) four (k .0) in (
+        h,
+        sym (ap (seen e) (k .1)) ∙ sym (List·getD-map (seen e) (f .corners) n q) ∙ ap (λ (l : List Place). getD l n (seen e q)) (made .corners)
+            ∙ getD-default round n (seen e q) (place-of 0) h,
+      )
 
   turning : Reaches b (first e) → Reaches b (second e) → (i k : ℕ) (u v t : Place) → At (f .corners) i u → At (f .corners) (next 4 i) v → At (f .corners) k t →
       (k ≡ i → ⊥) → (k ≡ next 4 i → ⊥) → pos 0 <ℤ leftward (f .plane) u v t
@@ -260,7 +262,7 @@ module _ (b : Block) (e : Way) (f : Face) (made : Made b e f) where
       let r = in-order k t d in
       let s = turns-positive (top b e) (bot b (first e)) (top b (first e)) (bot b (second e)) (top b (second e)) r1 r2 i k (p .0) (r .0) x y in
       let o = ap (λ (z : Plane). leftward z u v t) (made .plane) ∙ turn-seen e (top b e) u v t
-          ∙ ap (λ (z : Place). turn z (seen e v) (seen e t)) (p .1) ∙ ap₂ (λ (z w : Place). turn (place-of i) z w) (q .1) (r .1) in
+      ∙ ap (λ (z : Place). turn z (seen e v) (seen e t)) (p .1) ∙ ap₂ (λ (z w : Place). turn (place-of i) z w) (q .1) (r .1) in
       subst (λ (z : ℤ). pos 0 <ℤ z) (sym o) s
 
   pub right-corners : Reaches b (first e) → Reaches b (second e) → ((v : Place) → Has (f .corners) v → Small-place v) → Right-corners f

@@ -142,7 +142,7 @@ module _ (b : Block) where
           inside = only-face a (λ f. all-below (f .edges) (f .place) ≡ true) (λ e. face-inside a fits e (face-at a e) (made a e));
           clear = only-face a (λ f. Clear-but s (f .plane) (f .place)) (λ e. face-clear a fits e (face-at a e) (made a e) b refl);
           corners = only-face a Right-corners (λ e. right-corners a e (face-at a e) (made a e) (thick-way a fits (first e)) (thick-way a fits (second e))
-            (each-of Small-place (face-at a e .corners) (face-fits a fits e .corners)));
+              (each-of Small-place (face-at a e .corners) (face-fits a fits e .corners)));
         }
 
   module _ (none : thick (cut b) ≡ false) where
@@ -150,7 +150,7 @@ module _ (b : Block) where
     unfolding in-faces
     no-faces = record {
       once = λ p q h c. let w = faced b p h in let k = subst (λ (r : Plane). on r q ≡ true) (sym (w .is)) (c .on-it) in
-        subst (λ (r : Plane). _≡_ {A = ℕ} 0 (cond (ends (solid (as-shape b)) r q) 1 0)) (w .is) (sym (ap (λ t. cond t 1 0) (ends-none b (w .way) (w .end) q (c .real) k none)));
+          subst (λ (r : Plane). _≡_ {A = ℕ} 0 (cond (ends (solid (as-shape b)) r q) 1 0)) (w .is) (sym (ap (λ t. cond t 1 0) (ends-none b (w .way) (w .end) q (c .real) k none)));
       ours = λ f h. absurd (has-none f h);
       small = λ f h. absurd (has-none f h);
       inside = λ f h. absurd (has-none f h);

@@ -101,7 +101,7 @@ module _ (b : Block) where
     piece-clear = record {
       real = lit< tt;
       off = λ r h. let m = block-piece (cut b) .place in let w = has-solid b r h in
-        subst (λ (p : Plane). on p m ≡ false) (w .is) (off-inside (top (cut b) (w .way)) (w .way) m (inner (w .way)) (w .end) (w .room));
+          subst (λ (p : Plane). on p m ≡ false) (w .is) (off-inside (top (cut b) (w .way)) (w .way) m (inner (w .way)) (w .end) (w .room));
     }
 
     piece-ours : Ours (solid (as-shape b)) (block-piece (cut b) .planes)

@@ -32,19 +32,19 @@ Good p = Fits-plane p × Level p
 -- a level plane is in range if its offset is
 level-good : (p : Plane) → Level p → natAbs (p .d) ≤ offset-limit → Good p
 level-good p l d = (
-    record {
-      a = record { size = omega (arith, l) };
-      b = record { size = omega (arith, l) };
-      c = record { size = omega (arith, l) };
-      d = record { size = d };
-      sloped = λ h.
-          let a : natAbs (p .a) ≡ 0 = ap natAbs (h .0) in
-          let b : natAbs (p .b) ≡ 0 = ap natAbs (h .1) in
-          let c : natAbs (p .c) ≡ 0 = ap natAbs (h .2) in
-          omega (arith, l)
-    },
-    l
-  )
+  record {
+    a = record { size = omega (arith, l) };
+    b = record { size = omega (arith, l) };
+    c = record { size = omega (arith, l) };
+    d = record { size = d };
+    sloped = λ h.
+        let a : natAbs (p .a) ≡ 0 = ap natAbs (h .0) in
+        let b : natAbs (p .b) ≡ 0 = ap natAbs (h .1) in
+        let c : natAbs (p .c) ≡ 0 = ap natAbs (h .2) in
+        omega (arith, l);
+  },
+  l,
+)
 
 walls : (p : Plane) → Has (planes workshop) p → Good p
 unfolding planes workshop box

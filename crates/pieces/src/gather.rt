@@ -37,7 +37,12 @@ const fn wall(a: i64, b: i64, c: i64) -> Plane
     requires { ⌜ Short a 1 ⌝ ∗ ⌜ Short b 1 ⌝ ∗ ⌜ Short c 1 ⌝ }
     ensures { λ r. ⌜ r ≡ plane a b c (pos reach) ⌝ }
 {
-    Plane { a, b, c, d: REACH as i64 }
+    Plane {
+        a,
+        b,
+        c,
+        d: REACH as i64,
+    }
 }
 
 /// Puts the planes of the workshop in front; hands back how many they are.
@@ -46,14 +51,16 @@ pub(crate) fn put_walls(planes: &mut [Plane]) -> usize
     ensures count { λ r. ⌜ r ≡ 6 ⌝ }
     ensures are { λ r. ⌜ take r (now (planes .exit)) ≡ planes-of workshop ⌝ }
 {
-    planes[0..6].copy_from_slice(&[
-        wall(1, 0, 0),
-        wall(-1, 0, 0),
-        wall(0, 1, 0),
-        wall(0, -1, 0),
-        wall(0, 0, 1),
-        wall(0, 0, -1),
-    ]);
+    planes[0..6].copy_from_slice(
+        &[
+            wall(1, 0, 0),
+            wall(-1, 0, 0),
+            wall(0, 1, 0),
+            wall(0, -1, 0),
+            wall(0, 0, 1),
+            wall(0, 0, -1),
+        ],
+    );
     6
 }
 

@@ -5,8 +5,10 @@ ghost use lib.ListN.{length};
 ghost use Rattle.search.specs.Search.{Off, Found};
 ghost use Rattle.solid.specs.Stacks.{shape-of};
 ghost use Rattle.pieces.specs.Questions.{in-one, in-two, planes-of-two, Level-steps};
+
 mod gather;
 pub mod questions;
+
 use gather::gather_two;
 use plane::types::Place;
 use plane::types::Plane;
@@ -17,7 +19,13 @@ use questions::OverlapQuestion;
 use search::places::find;
 
 /// A place off the planes where two parts differ, if there is one.
-pub fn difference(first: &[u64], second: &[u64], planes: &mut [Plane], lent: &mut [u64], work: &mut [u64]) -> Option<Place>
+pub fn difference(
+    first: &[u64],
+    second: &[u64],
+    planes: &mut [Plane],
+    lent: &mut [u64],
+    work: &mut [u64],
+) -> Option<Place>
     requires shapes { ⌜ Level-steps (now first) ⌝ ∗ ⌜ Level-steps (now second) ⌝ }
     requires planes { ⌜ 6 + length (now first) + length (now second) ≤ length (now planes) ⌝ }
     requires lent { ⌜ 3 * (length (now planes) + 1) ≤ length (now lent) ⌝ }
@@ -29,7 +37,13 @@ pub fn difference(first: &[u64], second: &[u64], planes: &mut [Plane], lent: &mu
 }
 
 /// A place off the planes that two parts share, if there is one.
-pub fn overlap(first: &[u64], second: &[u64], planes: &mut [Plane], lent: &mut [u64], work: &mut [u64]) -> Option<Place>
+pub fn overlap(
+    first: &[u64],
+    second: &[u64],
+    planes: &mut [Plane],
+    lent: &mut [u64],
+    work: &mut [u64],
+) -> Option<Place>
     requires shapes { ⌜ Level-steps (now first) ⌝ ∗ ⌜ Level-steps (now second) ⌝ }
     requires planes { ⌜ 6 + length (now first) + length (now second) ≤ length (now planes) ⌝ }
     requires lent { ⌜ 3 * (length (now planes) + 1) ≤ length (now lent) ⌝ }

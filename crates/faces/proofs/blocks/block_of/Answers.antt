@@ -16,7 +16,7 @@ pub returns : need.returns
 returns c =
     let b = block (c .args .x0) (c .args .x1) (c .args .y0) (c .args .y1) (c .args .z0) (c .args .z1) in
     let e : c .left-in .result ≡ left-of b =
-        c .left-in .ensures ∙ ap left-of (six block (omega (arith, ints)) (omega (arith, ints)) (omega (arith, ints)) (omega (arith, ints)) (omega (arith, ints)) (omega (arith, ints))) in
+    c .left-in .ensures ∙ ap left-of (six block (omega (arith, ints)) (omega (arith, ints)) (omega (arith, ints)) (omega (arith, ints)) (omega (arith, ints)) (omega (arith, ints))) in
     record {
       value = e;
       fits = subst (λ (r : Option Block). Cases r (Unit {0}) Fits-block) (sym e) (left-fits b);

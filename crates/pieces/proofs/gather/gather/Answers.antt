@@ -20,17 +20,17 @@ loop-w-again c =
       | in-Half w ↦
           subst₂ P (sym (w .n-is)) (sym (w .planes-is)) (
             omega (arith, c .loop-w .inv .0),
-            one-plane ws ps (c .loop-w .w-index) (c .loop-w .n) (c .loop-w-test .taken) all (c .loop-w .inv .1) (w .in-Half .p) (c .step-of .result) (c .step-of .ensures) (w .in-Half .is) room
+            one-plane ws ps (c .loop-w .w-index) (c .loop-w .n) (c .loop-w-test .taken) all (c .loop-w .inv .1) (w .in-Half .p) (c .step-of .result) (c .step-of .ensures) (w .in-Half .is) room,
           )
       | in-rest w ↦
           subst₂ P (sym (w .n-is)) (sym (w .planes-is)) (
             omega (arith, c .loop-w .inv .0),
-            no-plane ws ps (c .loop-w .w-index) (c .loop-w .n) (c .loop-w-test .taken) all (c .loop-w .inv .1) (c .step-of .result) (c .step-of .ensures) (w .in-rest .not-Half)
+            no-plane ws ps (c .loop-w .w-index) (c .loop-w .n) (c .loop-w-test .taken) all (c .loop-w .inv .1) (c .step-of .result) (c .step-of .ensures) (w .in-rest .not-Half),
           )
     ]
 
 pub returns : need.returns
 returns c = record {
-    few = omega (arith, c .loop-w .inv .0);
-    are = no-more (c .args .steps .now) (c .loop-w .planes) (c .loop-w .w-index) (c .loop-w .n) _ (c .loop-w-test .left) (c .loop-w .inv .1)
-  }
+  few = omega (arith, c .loop-w .inv .0);
+  are = no-more (c .args .steps .now) (c .loop-w .planes) (c .loop-w .w-index) (c .loop-w .n) _ (c .loop-w-test .left) (c .loop-w .inv .1);
+}

@@ -15,5 +15,5 @@ returns c =
       few = omega (arith, c .gather-more .ensures .few, c .gather .ensures .few, c .put-walls-walls .ensures .count);
       are =
           c .gather .ensures .are
-          ∙ ap₂ (λ (x y : List Plane). x ++ y) (c .gather-more .ensures .are ∙ ap₂ (λ (x y : List Plane). x ++ y) (c .put-walls-walls .ensures .are) a) b
+          ∙ ap₂ (λ (x y : List Plane). x ++ y) (c .gather-more .ensures .are ∙ ap₂ (λ (x y : List Plane). x ++ y) (c .put-walls-walls .ensures .are) a) b;
     }
