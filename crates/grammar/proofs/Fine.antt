@@ -16,7 +16,7 @@ use Rattle.std.proofs.shelf.Tests.{both-ways, and-from, and-right, cond-true}
 use Rattle.grammar.specs.Grammar.{Expr, half, box, two, move, one, called, Two, both, either, without, One, mirror, swap, turn, Name, Line, part, place, same-as, meet, model, same, oneOf, isName, print, signed, decimal, Text}
 use Rattle.grammar.specs.Tokens.{inTok, tokAt, startsFrom, codeE, codeOf}
 use Rattle.grammar.specs.Values.{readOn, number-limit, scale-most}
-use Rattle.grammar.specs.Faults.{Fault, fault, Token, token, tokens, Role, new-name, used-name, shape, measure, scale, of-part, of-place, of-box, scan, if-so, looked, word-faults, amount, negative, beyond, no-scale, most-parts, later}
+use Rattle.grammar.specs.Faults.{Fault, fault, Token, token, tokens, Role, new-name, used-name, shape, measure, scale, unread, of-box, behind-line, behind-shape, scan, if-so, looked, word-faults, amount, negative, beyond, no-scale, most-parts}
 use Rattle.grammar.specs.Meaning.{short, scales, fine, fine-shape}
 use Rattle.grammar.proofs.First.{all-inside}
 use Rattle.grammar.proofs.Tokens.{text-code, placed}
@@ -27,12 +27,13 @@ use Rattle.grammar.proofs.Values.{read-digits}
 -- no fault in words, wherever they stand
 abbrev pub clean : List (List ℕ) → List Role → List (List ℕ) → Bool
 clean names rs [] = true
-clean names [] (w ∷ ws) = cond (same w (codes "part")) (ltb (length names) most-parts && clean names of-part ws) (cond (same w (codes "place")) (clean names of-place ws) (not (oneOf later w)))
+clean names [] (w ∷ ws) = not (same w (codes "part") && leb most-parts (length names)) && clean names (behind-line w) ws
 clean names (new-name ∷ rs) (w ∷ ws) = not (isName w && oneOf names w) && clean (names ++ w ∷ []) rs ws
 clean names (used-name ∷ rs) (w ∷ ws) = not (isName w && not (oneOf names w)) && clean names rs ws
-clean names (shape ∷ rs) (w ∷ ws) = same w (codes "box") && clean names (of-box ++ rs) ws
+clean names (shape ∷ rs) (w ∷ ws) = not (not (same w (codes "box"))) && clean names (behind-shape w rs) ws
 clean names (measure ∷ rs) (w ∷ ws) = not (beyond w) && clean names rs ws
 clean names (scale ∷ rs) (w ∷ ws) = not (no-scale w) && clean names rs ws
+clean names (unread ∷ rs) (w ∷ ws) = true
 
 abbrev words-of : List Token → List (List ℕ)
 words-of ts = map (λ t. t .word) ts
@@ -46,35 +47,21 @@ none-so : (b : Bool) (n : ℕ) (t : Token) (fs : List Fault) → none (if-so b n
 none-so true n t fs = refl
 none-so false n t fs = refl
 
-none-one : (b : Bool) (n : ℕ) (t : Token) → none (if-so b n t) ≡ not b
-none-one true n t = refl
-none-one false n t = refl
-
 -- no fault is told exactly of clean words
 pub none-clean : (names : List (List ℕ)) (rs : List Role) (ts : List Token) → none (scan names rs ts) ≡ clean names rs (words-of ts)
 none-clean names [] [] = refl
 none-clean names (r ∷ rs) [] = refl
-none-clean names [] (t ∷ ts) = go (same (t .word) (codes "part")) (same (t .word) (codes "place")) (none-clean names of-part ts) (none-clean names of-place ts)
-  where
-    few : (b : Bool) → leb most-parts (length names) ≡ b → not b ≡ ltb (length names) most-parts
-    few true e = sym (grind (arith, ltb-true, ltb-false))
-    few false e = sym (grind (arith, ltb-true, ltb-false))
-
-    go : (a b : Bool) → none (scan names of-part ts) ≡ clean names of-part (words-of ts) → none (scan names of-place ts) ≡ clean names of-place (words-of ts) →
-        none (cond a (if-so (leb most-parts (length names)) 3 t ++ scan names of-part ts) (cond b (scan names of-place ts) (if-so (oneOf later (t .word)) 1 t)))
-        ≡ cond a (ltb (length names) most-parts && clean names of-part (words-of ts)) (cond b (clean names of-place (words-of ts)) (not (oneOf later (t .word))))
-    go true b p q = none-so (leb most-parts (length names)) 3 t (scan names of-part ts) ∙ ap₂ (λ x y. x && y) (few (leb most-parts (length names)) refl) p
-    go false true p q = q
-    go false false p q = none-one (oneOf later (t .word)) 1 t
+none-clean names [] (t ∷ ts) =
+    none-so (same (t .word) (codes "part") && leb most-parts (length names)) 3 t (scan names (behind-line (t .word)) ts)
+    ∙ ap (λ (x : Bool). not (same (t .word) (codes "part") && leb most-parts (length names)) && x) (none-clean names (behind-line (t .word)) ts)
 none-clean names (new-name ∷ rs) (t ∷ ts) =
     none-so (isName (t .word) && oneOf names (t .word)) 2 t (scan (names ++ t .word ∷ []) rs ts) ∙ ap (λ (x : Bool). not (isName (t .word) && oneOf names (t .word)) && x) (none-clean (names ++ t .word ∷ []) rs ts)
 none-clean names (used-name ∷ rs) (t ∷ ts) =
     none-so (isName (t .word) && not (oneOf names (t .word))) 2 t (scan names rs ts) ∙ ap (λ (x : Bool). not (isName (t .word) && not (oneOf names (t .word))) && x) (none-clean names rs ts)
-none-clean names (shape ∷ rs) (t ∷ ts) = go (same (t .word) (codes "box")) (none-clean names (of-box ++ rs) ts)
-  where
-    go : (a : Bool) → none (scan names (of-box ++ rs) ts) ≡ clean names (of-box ++ rs) (words-of ts) → none (cond a (scan names (of-box ++ rs) ts) (if-so true 1 t)) ≡ (a && clean names (of-box ++ rs) (words-of ts))
-    go true p = p
-    go false p = refl
+none-clean names (shape ∷ rs) (t ∷ ts) =
+    none-so (not (same (t .word) (codes "box"))) 1 t (scan names (behind-shape (t .word) rs) ts)
+    ∙ ap (λ (x : Bool). not (not (same (t .word) (codes "box"))) && x) (none-clean names (behind-shape (t .word) rs) ts)
+none-clean names (unread ∷ rs) (t ∷ ts) = refl
 none-clean names (measure ∷ rs) (t ∷ ts) = none-so (beyond (t .word)) 4 t (scan names rs ts) ∙ ap (λ (x : Bool). not (beyond (t .word)) && x) (none-clean names rs ts)
 none-clean names (scale ∷ rs) (t ∷ ts) = none-so (no-scale (t .word)) 4 t (scan names rs ts) ∙ ap (λ (x : Bool). not (no-scale (t .word)) && x) (none-clean names rs ts)
 
@@ -187,19 +174,27 @@ clean-shape names (move x y z e) ws t h = refl
 clean-shape names (one mirror e) ws t h = refl
 clean-shape names (one swap e) ws t h = refl
 clean-shape names (one turn e) ws t h = refl
-clean-shape names (called n) ws t h = ap (λ (x : Bool). x && clean names of-box ws) (no-box n)
+clean-shape names (called n) ws t h =
+    ap (λ (x : Bool). not (not x) && clean names (cond x of-box (unread ∷ [])) ws) (no-box n)
+
+few : (names : List (List ℕ)) → not (leb most-parts (length names)) ≡ ltb (length names) most-parts
+few names = go (leb most-parts (length names)) refl
+  where
+    go : (b : Bool) → leb most-parts (length names) ≡ b → not b ≡ ltb (length names) most-parts
+    go true e = sym (grind (arith, ltb-true, ltb-false))
+    go false e = sym (grind (arith, ltb-true, ltb-false))
 
 pub clean-fine : (names : List (List ℕ)) (ls : List Line) → clean names [] (codeOf ls) ≡ fine names ls
 clean-fine names [] = refl
 clean-fine names (part n e ∷ ls) =
-    ap (λ (x : Bool). ltb (length names) most-parts && x)
+    ap₂ (λ x y. x && y) (few names)
     (ap₂ (λ x y. x && y) (new-one names n) (clean-shape (names ++ n .0 ∷ []) e (codeOf ls) (fine (names ++ n .0 ∷ []) ls) (clean-fine (names ++ n .0 ∷ []) ls)))
 clean-fine names (place n x y z w ∷ ls) =
     ap₂ (λ a b. a && b) (known-one names n)
     (ap₂ (λ a b. a && b) (not-beyond x) (ap₂ (λ a b. a && b) (not-beyond y) (ap₂ (λ a b. a && b) (not-beyond z) (ap₂ (λ a b. a && b) (not-no-scale w) (clean-fine names ls)))))
-clean-fine names (same-as n m ∷ ls) = refl
-clean-fine names (meet n m ∷ ls) = refl
-clean-fine names (model n ∷ ls) = refl
+clean-fine names (same-as n m ∷ ls) = ap₂ (λ a b. a && b) (known-one names n) (ap₂ (λ a b. a && b) (known-one names m) (clean-fine names ls))
+clean-fine names (meet n m ∷ ls) = ap₂ (λ a b. a && b) (known-one names n) (ap₂ (λ a b. a && b) (known-one names m) (clean-fine names ls))
+clean-fine names (model n ∷ ls) = ap₂ (λ a b. a && b) (known-one names n) (clean-fine names ls)
 
 -- every word of whole bytes is read to its end
 tok-short : (xs : List ℕ) → length (tokAt xs) ≤ length xs

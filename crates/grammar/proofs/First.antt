@@ -16,7 +16,7 @@ use Rattle.std.proofs.shelf.Lists.{take-all, take-take}
 use Rattle.grammar.specs.Grammar.{same, oneOf, isName, Text, Viable, Refused}
 use Rattle.grammar.specs.Laws.{One-place, Not-both}
 use Rattle.grammar.specs.Tokens.{inTok, tokAt, startsFrom, once-if}
-use Rattle.grammar.specs.Faults.{Fault, fault, Token, token, tokens, Role, new-name, used-name, shape, measure, scale, of-part, of-place, of-box, scan, if-so, looked, word-faults, beyond, no-scale, most-parts, later, most-bytes, Reaches, seen, Faulty, stuck, long, wrong, Before, First-fault}
+use Rattle.grammar.specs.Faults.{Fault, fault, Token, token, tokens, Role, new-name, used-name, shape, measure, scale, unread, behind-line, behind-shape, scan, if-so, looked, word-faults, beyond, no-scale, most-parts, most-bytes, Reaches, seen, Faulty, stuck, long, wrong, Before, First-fault}
 use Rattle.grammar.proofs.Spacing.{Ascends, ascends-all, word-faults-ascend}
 use Rattle.grammar.proofs.Laws.{one-place, not-both, shorter}
 
@@ -43,28 +43,17 @@ module _ (P : ℕ → Type 0) where
   so-place true k t fs h a = (h, a)
   so-place false k t fs h a = a
 
-  lone : (b : Bool) (k : ℕ) (t : Token) → P (t .start) → All (λ f. P (f .place)) (if-so b k t)
-  lone true k t h = (h, tt)
-  lone false k t h = tt
-
   scan-places : (names : List (List ℕ)) (rs : List Role) (ts : List Token) → All (λ t. P (t .start)) ts → All (λ f. P (f .place)) (scan names rs ts)
   scan-places names [] [] s = tt
   scan-places names (r ∷ rs) [] s = tt
-  scan-places names [] (t ∷ ts) s = go (same (t .word) (codes "part")) (same (t .word) (codes "place")) (scan-places names of-part ts (s .1)) (scan-places names of-place ts (s .1))
-    where
-      go : (a b : Bool) → All (λ f. P (f .place)) (scan names of-part ts) → All (λ f. P (f .place)) (scan names of-place ts) →
-          All (λ f. P (f .place)) (cond a (if-so (leb most-parts (length names)) 3 t ++ scan names of-part ts) (cond b (scan names of-place ts) (if-so (oneOf later (t .word)) 1 t)))
-      go true b p q = so-place (leb most-parts (length names)) 3 t (scan names of-part ts) (s .0) p
-      go false true p q = q
-      go false false p q = lone (oneOf later (t .word)) 1 t (s .0)
+  scan-places names [] (t ∷ ts) s =
+      so-place (same (t .word) (codes "part") && leb most-parts (length names)) 3 t (scan names (behind-line (t .word)) ts) (s .0) (scan-places names (behind-line (t .word)) ts (s .1))
   scan-places names (new-name ∷ rs) (t ∷ ts) s =
       so-place (isName (t .word) && oneOf names (t .word)) 2 t (scan (names ++ t .word ∷ []) rs ts) (s .0) (scan-places (names ++ t .word ∷ []) rs ts (s .1))
   scan-places names (used-name ∷ rs) (t ∷ ts) s = so-place (isName (t .word) && not (oneOf names (t .word))) 2 t (scan names rs ts) (s .0) (scan-places names rs ts (s .1))
-  scan-places names (shape ∷ rs) (t ∷ ts) s = go (same (t .word) (codes "box")) (scan-places names (of-box ++ rs) ts (s .1))
-    where
-      go : (a : Bool) → All (λ f. P (f .place)) (scan names (of-box ++ rs) ts) → All (λ f. P (f .place)) (cond a (scan names (of-box ++ rs) ts) (if-so true 1 t))
-      go true p = p
-      go false p = (s .0, tt)
+  scan-places names (shape ∷ rs) (t ∷ ts) s =
+      so-place (not (same (t .word) (codes "box"))) 1 t (scan names (behind-shape (t .word) rs) ts) (s .0) (scan-places names (behind-shape (t .word) rs) ts (s .1))
+  scan-places names (unread ∷ rs) (t ∷ ts) s = tt
   scan-places names (measure ∷ rs) (t ∷ ts) s = so-place (beyond (t .word)) 4 t (scan names rs ts) (s .0) (scan-places names rs ts (s .1))
   scan-places names (scale ∷ rs) (t ∷ ts) s = so-place (no-scale (t .word)) 4 t (scan names rs ts) (s .0) (scan-places names rs ts (s .1))
 

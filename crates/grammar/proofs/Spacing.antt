@@ -11,7 +11,7 @@ use Rattle.std.specs.shelf.Lists.{kept-by, All}
 use Rattle.std.proofs.shelf.Tests.{cond-true, cond-false}
 use Rattle.grammar.specs.Grammar.{same, oneOf, isName}
 use Rattle.grammar.specs.Tokens.{inTok, tokAt, startsFrom, once-if}
-use Rattle.grammar.specs.Faults.{Fault, fault, Token, token, tokens, Role, new-name, used-name, shape, measure, scale, of-part, of-place, of-box, scan, if-so, looked, word-faults, beyond, no-scale, most-parts, later}
+use Rattle.grammar.specs.Faults.{Fault, fault, Token, token, tokens, Role, new-name, used-name, shape, measure, scale, unread, behind-line, behind-shape, scan, if-so, looked, word-faults, beyond, no-scale, most-parts}
 use Rattle.grammar.proofs.Tokens.{drop-next}
 
 -- each begins at n or behind, and the next behind its end
@@ -101,25 +101,13 @@ pub ascends : (names : List (List ℕ)) (rs : List Role) (n : ℕ) (ts : List To
 ascends names [] n [] s = tt
 ascends names (r ∷ rs) n [] s = tt
 ascends names [] n (t ∷ ts) s =
-    go (same (t .word) (codes "part")) (same (t .word) (codes "place")) (ascends names of-part _ ts (s .1)) (ascends names of-place _ ts (s .1))
-  where
-    go : (a b : Bool) → Ascends (t .start + length (t .word) + 1) (scan names of-part ts) → Ascends (t .start + length (t .word) + 1) (scan names of-place ts) →
-        Ascends n (cond a (if-so (leb most-parts (length names)) 3 t ++ scan names of-part ts) (cond b (scan names of-place ts) (if-so (oneOf later (t .word)) 1 t)))
-    go true b p q = ascends-so n (leb most-parts (length names)) 3 t (scan names of-part ts) (s .0) p
-    go false true p q = let k = s .0 in ascends-less _ _ (scan names of-place ts) (omega arith) q
-    go false false p q = last (oneOf later (t .word))
-      where
-        last : (c : Bool) → Ascends n (if-so c 1 t)
-        last true = (s .0, tt)
-        last false = tt
+    ascends-so n (same (t .word) (codes "part") && leb most-parts (length names)) 3 t (scan names (behind-line (t .word)) ts) (s .0) (ascends names (behind-line (t .word)) _ ts (s .1))
 ascends names (new-name ∷ rs) n (t ∷ ts) s =
     ascends-so n (isName (t .word) && oneOf names (t .word)) 2 t (scan (names ++ t .word ∷ []) rs ts) (s .0) (ascends (names ++ t .word ∷ []) rs _ ts (s .1))
 ascends names (used-name ∷ rs) n (t ∷ ts) s = ascends-so n (isName (t .word) && not (oneOf names (t .word))) 2 t (scan names rs ts) (s .0) (ascends names rs _ ts (s .1))
-ascends names (shape ∷ rs) n (t ∷ ts) s = go (same (t .word) (codes "box")) (ascends names (of-box ++ rs) _ ts (s .1))
-  where
-    go : (a : Bool) → Ascends (t .start + length (t .word) + 1) (scan names (of-box ++ rs) ts) → Ascends n (cond a (scan names (of-box ++ rs) ts) (if-so true 1 t))
-    go true p = let k = s .0 in ascends-less _ _ (scan names (of-box ++ rs) ts) (omega arith) p
-    go false p = (s .0, tt)
+ascends names (shape ∷ rs) n (t ∷ ts) s =
+    ascends-so n (not (same (t .word) (codes "box"))) 1 t (scan names (behind-shape (t .word) rs) ts) (s .0) (ascends names (behind-shape (t .word) rs) _ ts (s .1))
+ascends names (unread ∷ rs) n (t ∷ ts) s = tt
 ascends names (measure ∷ rs) n (t ∷ ts) s = ascends-so n (beyond (t .word)) 4 t (scan names rs ts) (s .0) (ascends names rs _ ts (s .1))
 ascends names (scale ∷ rs) n (t ∷ ts) s = ascends-so n (no-scale (t .word)) 4 t (scan names rs ts) (s .0) (ascends names rs _ ts (s .1))
 

@@ -35,9 +35,9 @@ token p w = record { start = p; word = w }
 abbrev pub tokens : List ℕ → List Token
 tokens bs = map (λ p. token p (tokAt (drop p bs))) (startsFrom false 0 bs)
 
--- what a word is, by its place; where none is expected, a line begins
+-- what a word is, by its place; where none is expected, a line begins; `unread` words are not looked at
 pub data Role : Type 0 where
-  new-name used-name shape measure scale : Role
+  new-name used-name shape measure scale unread : Role
 
 abbrev pub of-part : List Role
 of-part = new-name ∷ shape ∷ []
@@ -48,9 +48,23 @@ of-place = used-name ∷ measure ∷ measure ∷ measure ∷ scale ∷ []
 abbrev pub of-box : List Role
 of-box = measure ∷ measure ∷ measure ∷ measure ∷ measure ∷ measure ∷ []
 
--- words that begin a line, and are not taken yet
-abbrev pub later : List (List ℕ)
-later = codes "same" ∷ codes "meet" ∷ codes "model" ∷ []
+abbrev pub of-pair : List Role
+of-pair = used-name ∷ used-name ∷ []
+
+abbrev pub of-model : List Role
+of-model = used-name ∷ []
+
+-- what stands behind the word that begins a line
+abbrev pub behind-line : List ℕ → List Role
+behind-line w =
+    cond (same w (codes "part")) of-part
+    (cond (same w (codes "place")) of-place
+    (cond (same w (codes "same") || same w (codes "meet")) of-pair
+    (cond (same w (codes "model")) of-model (unread ∷ []))))
+
+-- what stands behind the word that begins a shape, and then what was expected: so far only a box is taken
+abbrev pub behind-shape : List ℕ → List Role → List Role
+behind-shape w rs = cond (same w (codes "box")) (of-box ++ rs) (unread ∷ [])
 
 -- the size of a number
 abbrev pub amount : List ℕ → ℕ
@@ -82,14 +96,13 @@ if-so false n t = []
 -- What stands behind a word that is not taken yet is not looked at.
 abbrev pub scan : List (List ℕ) → List Role → List Token → List Fault
 scan names rs [] = []
-scan names [] (t ∷ ts) =
-    cond (same (t .word) (codes "part")) (if-so (leb most-parts (length names)) 3 t ++ scan names of-part ts)
-    (cond (same (t .word) (codes "place")) (scan names of-place ts) (if-so (oneOf later (t .word)) 1 t))
+scan names [] (t ∷ ts) = if-so (same (t .word) (codes "part") && leb most-parts (length names)) 3 t ++ scan names (behind-line (t .word)) ts
 scan names (new-name ∷ rs) (t ∷ ts) = if-so (isName (t .word) && oneOf names (t .word)) 2 t ++ scan (names ++ t .word ∷ []) rs ts
 scan names (used-name ∷ rs) (t ∷ ts) = if-so (isName (t .word) && not (oneOf names (t .word))) 2 t ++ scan names rs ts
-scan names (shape ∷ rs) (t ∷ ts) = cond (same (t .word) (codes "box")) (scan names (of-box ++ rs) ts) (if-so true 1 t)
+scan names (shape ∷ rs) (t ∷ ts) = if-so (not (same (t .word) (codes "box"))) 1 t ++ scan names (behind-shape (t .word) rs) ts
 scan names (measure ∷ rs) (t ∷ ts) = if-so (beyond (t .word)) 4 t ++ scan names rs ts
 scan names (scale ∷ rs) (t ∷ ts) = if-so (no-scale (t .word)) 4 t ++ scan names rs ts
+scan names (unread ∷ rs) (t ∷ ts) = []
 
 -- the words of bytes of which so many count as read: a word that ends behind them is not looked at
 abbrev pub looked : ℕ → List ℕ → List Token
