@@ -16,7 +16,7 @@ use Rattle.std.proofs.shelf.Tests.{cond-true, cond-false}
 use Rattle.grammar.specs.Tokens.{tokAt, startsFrom}
 use Rattle.grammar.specs.Faults.{Fault, Token, token, tokens, Role, scan, looked, word-faults}
 use Rattle.reader.specs.declared.types.Expect.{Expect}
-use Rattle.reader.specs.declared.types.Expect.the-variants.{AtLine, AtNewName, AtShape, InBox, AtUsedName, InPlace}
+use Rattle.reader.specs.declared.types.Expect.the-variants.{AtLine, AtNewName, AtShape, InBox, AtPlaceName, InPlace, InNames, Unread}
 use Rattle.reader.specs.declared.types.Refusal.{Refusal}
 use Rattle.reader.specs.declared.types.Look.{Look}
 use Rattle.reader.specs.declared.types.Look.the-variants.{Wrong, Next, Done}
@@ -42,8 +42,10 @@ grown AtLine ns w = sym (append-nil ns)
 grown AtNewName ns w = refl
 grown AtShape ns w = sym (append-nil ns)
 grown (InBox k) ns w = sym (append-nil ns)
-grown AtUsedName ns w = sym (append-nil ns)
+grown AtPlaceName ns w = sym (append-nil ns)
 grown (InPlace k) ns w = sym (append-nil ns)
+grown (InNames k) ns w = sym (append-nil ns)
+grown Unread ns w = sym (append-nil ns)
 
 module _ (bs : List ℕ) (read : ℕ) (names : List ℕ) (parts : ℕ) (e : Expect) (ps : List ℕ) (k : ℕ) (h : k < length ps) (inv : Scanned bs read names parts e (drop k ps)) where
   abbrev word : Token
@@ -147,5 +149,7 @@ names-kept AtLine ns w n = refl
 names-kept AtNewName ns w n = absurd (n refl)
 names-kept AtShape ns w n = refl
 names-kept (InBox k) ns w n = refl
-names-kept AtUsedName ns w n = refl
+names-kept AtPlaceName ns w n = refl
 names-kept (InPlace k) ns w n = refl
+names-kept (InNames k) ns w n = refl
+names-kept Unread ns w n = refl

@@ -9,7 +9,7 @@ use lib.ListN.{length}
 use Rattle.std.proofs.shelf.Tests.{both-ways, and-parts}
 use Rattle.grammar.specs.Grammar.{Expr, half, box, two, move, one, called, Line, part, place, same-as, meet, model, same, oneOf}
 use Rattle.grammar.specs.Tokens.{codeOf}
-use Rattle.grammar.specs.Faults.{Token, Role, new-name, used-name, shape, measure, scale, of-part, of-place, of-box, most-parts}
+use Rattle.grammar.specs.Faults.{Token, Role, new-name, used-name, shape, measure, scale, unread, behind-line, behind-shape, most-parts}
 use Rattle.grammar.specs.Meaning.{short, scales, fine, fine-shape}
 use Rattle.reader.specs.Layout.{part-names}
 use Rattle.reader.specs.Scan.{named-in}
@@ -17,28 +17,24 @@ use Rattle.reader.specs.Scan.{named-in}
 -- the same over words alone
 abbrev named-words : List Role → List (List ℕ) → List (List ℕ)
 named-words rs [] = []
-named-words [] (w ∷ ws) = cond (same w (codes "part")) (named-words of-part ws) (cond (same w (codes "place")) (named-words of-place ws) [])
+named-words [] (w ∷ ws) = named-words (behind-line w) ws
 named-words (new-name ∷ rs) (w ∷ ws) = w ∷ named-words rs ws
 named-words (used-name ∷ rs) (w ∷ ws) = named-words rs ws
-named-words (shape ∷ rs) (w ∷ ws) = cond (same w (codes "box")) (named-words (of-box ++ rs) ws) []
+named-words (shape ∷ rs) (w ∷ ws) = named-words (behind-shape w rs) ws
 named-words (measure ∷ rs) (w ∷ ws) = named-words rs ws
 named-words (scale ∷ rs) (w ∷ ws) = named-words rs ws
+named-words (unread ∷ rs) (w ∷ ws) = []
 
 by-words : (rs : List Role) (ts : List Token) → named-in rs ts ≡ named-words rs (map (λ t. t .word) ts)
 by-words [] [] = refl
 by-words (r ∷ rs) [] = refl
-by-words [] (t ∷ ts) = go (same (t .word) (codes "part")) (same (t .word) (codes "place")) (by-words of-part ts) (by-words of-place ts)
-  where
-    go : (a b : Bool) → named-in of-part ts ≡ named-words of-part (map (λ t. t .word) ts) → named-in of-place ts ≡ named-words of-place (map (λ t. t .word) ts) →
-        cond a (named-in of-part ts) (cond b (named-in of-place ts) []) ≡ cond a (named-words of-part (map (λ t. t .word) ts)) (cond b (named-words of-place (map (λ t. t .word) ts)) [])
-    go true b p q = p
-    go false true p q = q
-    go false false p q = refl
+by-words [] (t ∷ ts) = by-words (behind-line (t .word)) ts
 by-words (new-name ∷ rs) (t ∷ ts) = ap (λ (l : List (List ℕ)). t .word ∷ l) (by-words rs ts)
 by-words (used-name ∷ rs) (t ∷ ts) = by-words rs ts
-by-words (shape ∷ rs) (t ∷ ts) = ap (λ (l : List (List ℕ)). cond (same (t .word) (codes "box")) l []) (by-words (of-box ++ rs) ts)
+by-words (shape ∷ rs) (t ∷ ts) = by-words (behind-shape (t .word) rs) ts
 by-words (measure ∷ rs) (t ∷ ts) = by-words rs ts
 by-words (scale ∷ rs) (t ∷ ts) = by-words rs ts
+by-words (unread ∷ rs) (t ∷ ts) = refl
 
 -- what of a conjunction is at its end
 last-of : (a b : Bool) → (a && b) ≡ true → b ≡ true
@@ -65,9 +61,9 @@ of-lines names (place n x y z w ∷ ls) h =
     let c = last-of (short y) _ b in
     let d = last-of (short z) _ c in
     of-lines names ls (last-of (scales w) _ d)
-of-lines names (same-as n m ∷ ls) h = absurd (both-ways false refl h)
-of-lines names (meet n m ∷ ls) h = absurd (both-ways false refl h)
-of-lines names (model n ∷ ls) h = absurd (both-ways false refl h)
+of-lines names (same-as n m ∷ ls) h = of-lines names ls (last-of (oneOf names (m .0)) _ (last-of (oneOf names (n .0)) _ h))
+of-lines names (meet n m ∷ ls) h = of-lines names ls (last-of (oneOf names (m .0)) _ (last-of (oneOf names (n .0)) _ h))
+of-lines names (model n ∷ ls) h = of-lines names ls (last-of (oneOf names (n .0)) _ h)
 
 pub names-are : (ts : List Token) (ls : List Line) → map (λ t. t .word) ts ≡ codeOf ls → fine [] ls ≡ true → named-in [] ts ≡ part-names ls
 names-are ts ls e f = by-words [] ts ∙ ap (named-words []) e ∙ of-lines [] ls f

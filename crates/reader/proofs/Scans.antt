@@ -11,7 +11,8 @@ use lib.ListN.{length, replicate}
 use borrow.Author.Tests.{le-leb}
 use Rattle.std.proofs.shelf.Tests.{cond-true, and-from}
 use Rattle.grammar.specs.Grammar.{same, oneOf, isName}
-use Rattle.grammar.specs.Faults.{Fault, fault, Token, Role, new-name, used-name, shape, measure, scale, of-part, of-place, of-box, scan, if-so, beyond, no-scale, most-parts}
+use Rattle.reader.specs.Scan.{named-in}
+use Rattle.grammar.specs.Faults.{Fault, fault, Token, Role, new-name, used-name, shape, measure, scale, unread, of-part, of-place, behind-line, behind-shape, scan, if-so, beyond, no-scale, most-parts}
 
 -- a fault told, and none
 so-wrong : (b : Bool) (n : ℕ) (t : Token) (r : List Fault) → b ≡ true → if-so b n t ++ r ≡ fault n (t .start) ∷ r
@@ -20,9 +21,9 @@ so-wrong b n t r e = ap (λ (x : Bool). if-so x n t ++ r) e
 so-right : (b : Bool) (n : ℕ) (t : Token) (r : List Fault) → b ≡ false → if-so b n t ++ r ≡ r
 so-right b n t r e = ap (λ (x : Bool). if-so x n t ++ r) e
 
-pub one-of : (k : ℕ) → 0 < k → replicate k measure ≡ measure ∷ replicate (k - 1) measure
-one-of zero h = absurd (omega arith)
-one-of (suc k) h = ap (λ (n : ℕ). measure ∷ replicate n measure) (sym (sub-one (suc k)))
+pub one-of : (r : Role) (k : ℕ) → 0 < k → replicate k r ≡ r ∷ replicate (k - 1) r
+one-of r zero h = absurd (omega arith)
+one-of r (suc k) h = ap (λ (n : ℕ). r ∷ replicate n r) (sym (sub-one (suc k)))
 
 module _ (names : List (List ℕ)) (t : Token) (ts : List Token) where
   -- a number, with others behind it
@@ -45,16 +46,26 @@ module _ (names : List (List ℕ)) (t : Token) (ts : List Token) where
   pub new-right : (isName (t .word) && oneOf names (t .word)) ≡ false → scan names of-part (t ∷ ts) ≡ scan (names ++ t .word ∷ []) (shape ∷ []) ts
   new-right e = so-right (isName (t .word) && oneOf names (t .word)) 2 t (scan (names ++ t .word ∷ []) (shape ∷ []) ts) e
 
-  pub used-wrong : isName (t .word) ≡ true → oneOf names (t .word) ≡ false → scan names of-place (t ∷ ts) ≡ fault 2 (t .start) ∷ scan names (measure ∷ measure ∷ measure ∷ scale ∷ []) ts
-  used-wrong e f =
-      so-wrong (isName (t .word) && not (oneOf names (t .word))) 2 t (scan names (measure ∷ measure ∷ measure ∷ scale ∷ []) ts)
-      (and-from (isName (t .word)) (not (oneOf names (t .word))) e (ap not f))
+  pub used-wrong : (rs : List Role) → (isName (t .word) && not (oneOf names (t .word))) ≡ true → scan names (used-name ∷ rs) (t ∷ ts) ≡ fault 2 (t .start) ∷ scan names rs ts
+  used-wrong rs e = so-wrong (isName (t .word) && not (oneOf names (t .word))) 2 t (scan names rs ts) e
 
-  pub used-right : (isName (t .word) && not (oneOf names (t .word))) ≡ false → scan names of-place (t ∷ ts) ≡ scan names (measure ∷ measure ∷ measure ∷ scale ∷ []) ts
-  used-right e = so-right (isName (t .word) && not (oneOf names (t .word))) 2 t (scan names (measure ∷ measure ∷ measure ∷ scale ∷ []) ts) e
+  pub used-right : (rs : List Role) → (isName (t .word) && not (oneOf names (t .word))) ≡ false → scan names (used-name ∷ rs) (t ∷ ts) ≡ scan names rs ts
+  used-right rs e = so-right (isName (t .word) && not (oneOf names (t .word))) 2 t (scan names rs ts) e
 
   -- the part that is one too many
-  pub part-wrong : same (t .word) (codes "part") ≡ true → most-parts ≤ length names → scan names [] (t ∷ ts) ≡ fault 3 (t .start) ∷ scan names of-part ts
+  pub part-wrong : same (t .word) (codes "part") ≡ true → most-parts ≤ length names → scan names [] (t ∷ ts) ≡ fault 3 (t .start) ∷ scan names (behind-line (t .word)) ts
   part-wrong e f =
-      cond-true (same (t .word) (codes "part")) _ _ e
-      ∙ so-wrong (leb most-parts (length names)) 3 t (scan names of-part ts) (le-leb _ _ f)
+      so-wrong (same (t .word) (codes "part") && leb most-parts (length names)) 3 t (scan names (behind-line (t .word)) ts)
+      (and-from (same (t .word) (codes "part")) (leb most-parts (length names)) e (le-leb _ _ f))
+
+  -- a line that begins rightly
+  pub line-right : (rs : List Role) → (same (t .word) (codes "part") && leb most-parts (length names)) ≡ false → behind-line (t .word) ≡ rs →
+      (scan names [] (t ∷ ts) ≡ scan names rs ts) × (named-in [] (t ∷ ts) ≡ [] ++ named-in rs ts)
+  line-right rs e f = (
+      so-right (same (t .word) (codes "part") && leb most-parts (length names)) 3 t (scan names (behind-line (t .word)) ts) e ∙ ap (λ (qs : List Role). scan names qs ts) f,
+      ap (λ (qs : List Role). named-in qs ts) f
+    )
+
+  -- a shape that is not taken yet
+  pub shape-wrong : same (t .word) (codes "box") ≡ false → scan names (shape ∷ []) (t ∷ ts) ≡ fault 1 (t .start) ∷ scan names (behind-shape (t .word) []) ts
+  shape-wrong e = so-wrong (not (same (t .word) (codes "box"))) 1 t (scan names (behind-shape (t .word) []) ts) (ap not e)

@@ -9,11 +9,11 @@ use Rattle.std.specs.declared.result.Result.{Result}
 use Rattle.std.specs.declared.result.Result.the-variants.{Ok, Err}
 use Rattle.grammar.specs.Grammar.{same}
 use Rattle.grammar.specs.Tokens.{tokAt}
-use Rattle.grammar.specs.Faults.{Fault, fault, Token, token, tokens, Role, new-name, used-name, shape, measure, scale, of-part, of-place, of-box, scan, looked, word-faults}
+use Rattle.grammar.specs.Faults.{Fault, fault, Token, token, tokens, Role, new-name, used-name, shape, measure, scale, unread, of-part, of-place, behind-line, behind-shape, scan, looked, word-faults}
 use Rattle.reader.specs.declared.types.Refusal.{Refusal}
 use Rattle.reader.specs.declared.types.Refusal.the-variants.{Grammar, Name, Limit, Range}
 use Rattle.reader.specs.declared.types.Expect.{Expect}
-use Rattle.reader.specs.declared.types.Expect.the-variants.{AtLine, AtNewName, AtShape, InBox, AtUsedName, InPlace}
+use Rattle.reader.specs.declared.types.Expect.the-variants.{AtLine, AtNewName, AtShape, InBox, AtPlaceName, InPlace, InNames, Unread}
 use Rattle.reader.specs.declared.types.Look.{Look}
 use Rattle.reader.specs.declared.types.Look.the-variants.{Wrong, Next, Done}
 use Rattle.reader.specs.Names.{words-at}
@@ -25,14 +25,16 @@ told (Name p) = fault 2 p
 told (Limit p) = fault 3 p
 told (Range p) = fault 4 p
 
--- what is expected: of a box, so many numbers; of a place, so many before the last
+-- what is expected: of a box, so many numbers; of a place, so many before the last; or so many names
 abbrev pub expected : Expect → List Role
 expected AtLine = []
 expected AtNewName = of-part
 expected AtShape = shape ∷ []
 expected (InBox k) = replicate k measure
-expected AtUsedName = of-place
+expected AtPlaceName = of-place
 expected (InPlace k) = replicate k measure ++ scale ∷ []
+expected (InNames k) = replicate k used-name
+expected Unread = unread ∷ []
 
 -- the names after a word
 abbrev pub with-name : Expect → List (List ℕ) → List ℕ → List (List ℕ)
@@ -40,18 +42,21 @@ with-name AtLine names w = names
 with-name AtNewName names w = names ++ w ∷ []
 with-name AtShape names w = names
 with-name (InBox k) names w = names
-with-name AtUsedName names w = names
+with-name AtPlaceName names w = names
 with-name (InPlace k) names w = names
+with-name (InNames k) names w = names
+with-name Unread names w = names
 
 -- the names of parts, in their order
 abbrev pub named-in : List Role → List Token → List (List ℕ)
 named-in rs [] = []
-named-in [] (t ∷ ts) = cond (same (t .word) (codes "part")) (named-in of-part ts) (cond (same (t .word) (codes "place")) (named-in of-place ts) [])
+named-in [] (t ∷ ts) = named-in (behind-line (t .word)) ts
 named-in (new-name ∷ rs) (t ∷ ts) = t .word ∷ named-in rs ts
 named-in (used-name ∷ rs) (t ∷ ts) = named-in rs ts
-named-in (shape ∷ rs) (t ∷ ts) = cond (same (t .word) (codes "box")) (named-in (of-box ++ rs) ts) []
+named-in (shape ∷ rs) (t ∷ ts) = named-in (behind-shape (t .word) rs) ts
 named-in (measure ∷ rs) (t ∷ ts) = named-in rs ts
 named-in (scale ∷ rs) (t ∷ ts) = named-in rs ts
+named-in (unread ∷ rs) (t ∷ ts) = []
 
 -- what a word does, whatever stands behind it
 abbrev pub Looked : Look → Expect → List (List ℕ) → Token → Type 0

@@ -1,6 +1,7 @@
 //! One word of a text, as it stands: whether it is right where it is.
 
 ghost use mathlib.Core.Path.{_≡_};
+ghost use mathlib.Core.Bool.{_&&_, not};
 ghost use mathlib.Core.List.{List};
 ghost use Prim.Native.Nat.{ℕ, _+_, _<_, _≤_};
 ghost use lib.ListN.{length, getD};
@@ -18,6 +19,9 @@ use super::types::Expect;
 use super::types::Look;
 use super::types::Refusal;
 use grammar::types::Kind;
+
+/// How many parts a text may have.
+const MOST_PARTS: usize = 100;
 
 /// Whether two words are the same.
 fn same_word(a: &[u8], b: &[u8]) -> bool
@@ -90,18 +94,24 @@ fn look_line(parts: usize, at: usize, word: &[u8]) -> Look
     ensures { λ r. ⌜ ((names : List (List ℕ)) → length names ≡ parts → Looked r Expect.AtLine names (token at (now (word .entry)))) ⌝ }
 {
     if same_word(word, b"part") {
-        if parts >= 100 {
+        if parts >= MOST_PARTS {
             return Look::Wrong(Refusal::Limit(at));
         }
         return Look::Next(Expect::AtNewName);
     }
     if same_word(word, b"place") {
-        return Look::Next(Expect::AtUsedName);
+        return Look::Next(Expect::AtPlaceName);
     }
-    if same_word(word, b"same") || same_word(word, b"meet") || same_word(word, b"model") {
-        return Look::Wrong(Refusal::Grammar(at));
+    if same_word(word, b"same") {
+        return Look::Next(Expect::InNames(2));
     }
-    Look::Done
+    if same_word(word, b"meet") {
+        return Look::Next(Expect::InNames(2));
+    }
+    if same_word(word, b"model") {
+        return Look::Next(Expect::InNames(1));
+    }
+    Look::Next(Expect::Unread)
 }
 
 /// Whether a word is among some names.
@@ -123,15 +133,35 @@ fn look_new_name(text: &[u8], names: &[u64], at: usize, word: &[u8]) -> Look
     Look::Next(Expect::AtShape)
 }
 
-/// The name of a part that is asked about: it is there.
-fn look_used_name(text: &[u8], names: &[u64], at: usize, word: &[u8]) -> Look
+/// Whether a name is used that isn't there.
+fn is_missing(text: &[u8], names: &[u64], word: &[u8]) -> bool
     requires { ⌜ ((k : ℕ) → k < length (now names) → getD (now names) k 0 ≤ length (now text)) ⌝ }
-    ensures { λ r. ⌜ Looked r Expect.AtUsedName (words-at (now (text .entry)) (now (names .entry))) (token at (now (word .entry))) ⌝ }
+    ensures { λ r. ⌜ r ≡ (isName (now (word .entry)) && not (oneOf (words-at (now (text .entry)) (now (names .entry))) (now (word .entry)))) ⌝ }
 {
-    if is_name(word) && !is_known(text, names, word) {
+    is_name(word) && !is_known(text, names, word)
+}
+
+/// The name of the part whose place is asked for: it is there.
+fn look_place_name(text: &[u8], names: &[u64], at: usize, word: &[u8]) -> Look
+    requires { ⌜ ((k : ℕ) → k < length (now names) → getD (now names) k 0 ≤ length (now text)) ⌝ }
+    ensures { λ r. ⌜ Looked r Expect.AtPlaceName (words-at (now (text .entry)) (now (names .entry))) (token at (now (word .entry))) ⌝ }
+{
+    if is_missing(text, names, word) {
         return Look::Wrong(Refusal::Name(at));
     }
     Look::Next(Expect::InPlace(3))
+}
+
+/// One of the `left` names of a question: it is there.
+fn look_in_names(text: &[u8], names: &[u64], left: usize, at: usize, word: &[u8]) -> Look
+    requires left { ⌜ 0 < left ⌝ }
+    requires inside { ⌜ ((k : ℕ) → k < length (now names) → getD (now names) k 0 ≤ length (now text)) ⌝ }
+    ensures { λ r. ⌜ Looked r (Expect.InNames left) (words-at (now (text .entry)) (now (names .entry))) (token at (now (word .entry))) ⌝ }
+{
+    if is_missing(text, names, word) {
+        return Look::Wrong(Refusal::Name(at));
+    }
+    Look::Next(Expect::InNames(left - 1))
 }
 
 /// The word that a shape begins with.
@@ -188,7 +218,15 @@ pub(crate) fn look(text: &[u8], names: &[u64], expect: Expect, at: usize, word: 
                 look_in_box(left, at, word)
             }
         }
-        Expect::AtUsedName => look_used_name(text, names, at, word),
+        Expect::AtPlaceName => look_place_name(text, names, at, word),
         Expect::InPlace(left) => look_in_place(left, at, word),
+        Expect::InNames(left) => {
+            if left == 0 {
+                look_line(names.len(), at, word)
+            } else {
+                look_in_names(text, names, left, at, word)
+            }
+        }
+        Expect::Unread => Look::Done,
     }
 }

@@ -56,9 +56,15 @@ pub enum Expect {
     AtLine,
     AtNewName,
     AtShape,
+    /// So many numbers of a box.
     InBox(usize),
-    AtUsedName,
+    AtPlaceName,
+    /// So many numbers of a place before its w.
     InPlace(usize),
+    /// So many names of parts.
+    InNames(usize),
+    /// Nothing more is looked at.
+    Unread,
 }
 
 /// What a word is found to be: wrong, or right, and then what is expected; or nothing behind it is looked at.

@@ -26,13 +26,13 @@ pub returns-then-is-beyond : need.returns-then-is-beyond
 returns-then-is-beyond c = λ names ts.
     let t = token (c .args .at) (c .args .word .now) in
     let h : 0 < c .args .left = omega arith in
-    (_, ap (λ (rs : List Role). scan names (rs ++ scale ∷ []) (t ∷ ts)) (one-of (c .args .left) h) ∙ number-wrong names t ts _ (sym (c .if-is-beyond .ensures tt)))
+    (_, ap (λ (rs : List Role). scan names (rs ++ scale ∷ []) (t ∷ ts)) (one-of measure (c .args .left) h) ∙ number-wrong names t ts _ (sym (c .if-is-beyond .ensures tt)))
 
 pub returns : need.returns
 returns c = λ names ts.
     let t = token (c .args .at) (c .args .word .now) in
     let h : 0 < c .args .left = omega arith in
-    let e = one-of (c .args .left) h in (
+    let e = one-of measure (c .args .left) h in (
       ap (λ (rs : List Role). scan names (rs ++ scale ∷ []) (t ∷ ts)) e ∙ number-right names t ts _ (sym (c .if-is-beyond .ensures tt)),
       ap (λ (rs : List Role). named-in (rs ++ scale ∷ []) (t ∷ ts)) e,
     )

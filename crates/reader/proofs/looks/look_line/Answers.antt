@@ -4,6 +4,6 @@ use Rattle.grammar.specs.Faults.{token}
 use Rattle.reader.proofs.Scans.{part-wrong}
 use Rattle.reader.proofs.looks.look_line.Needs as need
 
-pub returns-then-parts-ge100 : need.returns-then-parts-ge100
-returns-then-parts-ge100 c = λ names l ts.
+pub returns-then-parts-ge-MOST-PARTS : need.returns-then-parts-ge-MOST-PARTS
+returns-then-parts-ge-MOST-PARTS c = λ names l ts.
     (_, part-wrong names (token (c .args .at) (c .args .word .now)) ts (sym (c .if-same-word .ensures tt)) (omega arith))
