@@ -218,6 +218,17 @@ module _ (ps : List Part) (a : All-fit ps) where
   spot-long : (n : List ℕ) → oneOf (names-of ps) n ≡ true → length (spot 0 ps n) ≡ 2
   spot-long n k = ap length (found 0 ps n a k .spot-is)
 
+  -- two parts, behind the kind of a question
+  abbrev both : ℕ → List ℕ → List ℕ → List ℕ
+  both j n m = j ∷ spot 0 ps n ++ (spot 0 ps m ++ (0 ∷ 0 ∷ []))
+
+  both-in : (j : ℕ) (n m : List ℕ) → All (λ w. oneOf (names-of ps) w ≡ true) (n ∷ m ∷ []) →
+      (length (both j n m) ≡ 7) × Spot-at (steps-of ps) (both j n m) 1 (named ps n) × Spot-at (steps-of ps) (both j n m) 3 (named ps m)
+  both-in j n m k =
+      let one = spot-long n (k .0) in
+      let other = spot-long m (k .1 .0) in
+      (simp length-append (omega arith), spot-in (j ∷ []) _ n 1 (k .0) refl, spot-in (j ∷ spot 0 ps n) _ m 3 (k .1 .0) (omega arith))
+
   asked-by : (l : Line) (q : Query) (ls : List Line) → Asking l q → Sound (names-of ps) l ls → Asked ps l
   asked-by l q ls (of-place n x y z w) s =
       let k = s .known .0 in
@@ -226,22 +237,8 @@ module _ (ps : List Part) (a : All-fit ps) where
         seven = simp length-append (omega arith);
         holds = (refl, spot-in (0 ∷ []) _ (n .0) 1 k refl, place-behind x y z w (place-numbers x y z w (s .numbers)) (0 ∷ spot 0 ps (n .0)) 3 (omega arith));
       }
-  asked-by l q ls (of-same n m) s =
-      let k = s .known .0 in
-      let two = spot-long (n .0) k in
-      let others = spot-long (m .0) (s .known .1 .0) in
-      record {
-        seven = simp length-append (omega arith);
-        holds = (refl, spot-in (1 ∷ []) _ (n .0) 1 k refl, spot-in (1 ∷ spot 0 ps (n .0)) _ (m .0) 3 (s .known .1 .0) (omega arith));
-      }
-  asked-by l q ls (of-meet n m) s =
-      let k = s .known .0 in
-      let two = spot-long (n .0) k in
-      let others = spot-long (m .0) (s .known .1 .0) in
-      record {
-        seven = simp length-append (omega arith);
-        holds = (refl, spot-in (2 ∷ []) _ (n .0) 1 k refl, spot-in (2 ∷ spot 0 ps (n .0)) _ (m .0) 3 (s .known .1 .0) (omega arith));
-      }
+  asked-by l q ls (of-same n m) s = let b = both-in 1 (n .0) (m .0) (s .known) in record { seven = b .0; holds = (refl, b .1, b .2) }
+  asked-by l q ls (of-meet n m) s = let b = both-in 2 (n .0) (m .0) (s .known) in record { seven = b .0; holds = (refl, b .1, b .2) }
   asked-by l q ls (of-model n) s =
       let k = s .known .0 in
       let two = spot-long (n .0) k in

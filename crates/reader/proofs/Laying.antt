@@ -5,7 +5,7 @@
 use mathlib.Core.Path.{_≡_, refl, sym, _∙_, ap, subst}
 use mathlib.Core.List.{List, [], _∷_, _++_, append-assoc, append-nil}
 use mathlib.Core.Bool.{true}
-use Prim.Native.Nat.{ℕ, _+_, _-_, _*_, _≤_, _<_}
+use Prim.Native.Nat.{ℕ, suc, _+_, _-_, _*_, _≤_, _<_}
 use native.Mathlib.Nat.{zero-add}
 use native.Mathlib.Omega.{arith}
 use lib.IntN.{ℤ}
@@ -164,17 +164,13 @@ record Left (ps : List Part) (l : Line) (q : Query) (more : List Line) : Type 0 
   names : part-names (l ∷ more) ≡ part-names more
   steps : part-steps ps (l ∷ more) ≡ part-steps ps more
   parts : with-line ps l ≡ ps
-  one : length (questions ps (l ∷ more)) ≡ 1 + length (questions ps more)
+  one : length (questions ps (l ∷ more)) ≡ suc (length (questions ps more))
 
 left-by : (ps : List Part) (l : Line) (q : Query) (more : List Line) → Asking l q → Left ps l q more
-left-by ps l q more (of-place n x y z w) =
-    record { words-behind = refl; long = omega arith; some = omega arith; names = refl; steps = refl; parts = refl; one = omega arith }
-left-by ps l q more (of-same n m) =
-    record { words-behind = refl; long = omega arith; some = omega arith; names = refl; steps = refl; parts = refl; one = omega arith }
-left-by ps l q more (of-meet n m) =
-    record { words-behind = refl; long = omega arith; some = omega arith; names = refl; steps = refl; parts = refl; one = omega arith }
-left-by ps l q more (of-model n) =
-    record { words-behind = refl; long = omega arith; some = omega arith; names = refl; steps = refl; parts = refl; one = omega arith }
+left-by ps l q more (of-place n x y z w) = record { words-behind = refl; long = omega arith; some = omega arith; names = refl; steps = refl; parts = refl; one = refl }
+left-by ps l q more (of-same n m) = record { words-behind = refl; long = omega arith; some = omega arith; names = refl; steps = refl; parts = refl; one = refl }
+left-by ps l q more (of-meet n m) = record { words-behind = refl; long = omega arith; some = omega arith; names = refl; steps = refl; parts = refl; one = refl }
+left-by ps l q more (of-model n) = record { words-behind = refl; long = omega arith; some = omega arith; names = refl; steps = refl; parts = refl; one = refl }
 
 module _ {text tokens names spots steps asked : List ℕ} {at parts used count : ℕ} where
   -- a question's line

@@ -2,10 +2,10 @@
 use mathlib.Core.Path.{_≡_}
 use mathlib.Core.List.{List, [], _∷_, _++_}
 use mathlib.Core.Bool.{Bool, true, false, cond, _&&_}
-use Prim.Native.Nat.{ℕ}
+use Prim.Native.Nat.{ℕ, _*_, _<_, _≤_}
 use lib.Chars.{codes}
 use lib.IntN.{ℤ}
-use lib.ListN.{take, drop, getD}
+use lib.ListN.{length, take, drop, getD}
 use Rattle.solid.specs.Shapes.{box as box-of}
 use Rattle.solid.specs.Steps.{words}
 use Rattle.grammar.specs.Grammar.{Name, box, Line, part, place, same-as, meet, model, same}
@@ -69,6 +69,12 @@ in-range (place n x y z w) = short x && (short y && (short z && scales w))
 in-range (same-as n m) = true
 in-range (meet n m) = true
 in-range (model n) = true
+
+-- the words of a line and some names begin inside the text, and there are two words for each name
+pub record Within (text line names spots : List ℕ) : Type 0 where
+  pub line-inside : (k : ℕ) → k < length line → getD line k 0 < length text
+  pub names-inside : (k : ℕ) → k < length names → getD names k 0 ≤ length text
+  pub room : 2 * length names ≤ length spots
 
 -- words begin with a question that is taken
 pub record Question-at (text tokens : List ℕ) (q : Query) : Type 0 where

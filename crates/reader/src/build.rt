@@ -13,7 +13,7 @@ ghost use Rattle.grammar.specs.Grammar.{signed, Line, place, print};
 ghost use Rattle.grammar.specs.Tokens.{tokAt};
 ghost use Rattle.grammar.specs.Values.{number-limit};
 ghost use Rattle.reader.specs.Layout.{Taken, Laid, question-words};
-ghost use Rattle.reader.specs.Lines.{Part-at, steps-at, pair-of, begun, tokens-of, Question-at, Place-at, spot-at};
+ghost use Rattle.reader.specs.Lines.{Part-at, steps-at, pair-of, begun, tokens-of, Within, Question-at, Place-at, spot-at};
 ghost use Rattle.reader.specs.Names.{words-at};
 use super::looks::same_word;
 use super::tokens::find_name;
@@ -170,9 +170,7 @@ fn part_line(
 /// The two words that belong to the name that is the k-th word of a line.
 fn name_spot(text: &[u8], line: &[u64], names: &[u64], spots: &[u64], k: usize) -> [u64; 2]
     requires long { ⌜ k < length (now line) ⌝ }
-    requires inside { ⌜ ((k : ℕ) → k < length (now line) → getD (now line) k 0 < length (now text)) ⌝ }
-    requires names { ⌜ ((k : ℕ) → k < length (now names) → getD (now names) k 0 ≤ length (now text)) ⌝ }
-    requires spots { ⌜ 2 * length (now names) ≤ length (now spots) ⌝ }
+    requires within { ⌜ Within (now text) (now line) (now names) (now spots) ⌝ }
     ensures { λ r. ⌜ r ≡ spot-at (now (text .entry)) (now (names .entry)) (now (spots .entry)) (now (line .entry)) k ⌝ }
 {
     spot_of(text, names, spots, token_at(text, line[k] as usize))
@@ -181,9 +179,7 @@ fn name_spot(text: &[u8], line: &[u64], names: &[u64], spots: &[u64], k: usize) 
 /// The question of a place's line.
 fn place_question(text: &[u8], line: &[u64], names: &[u64], spots: &[u64]) -> [u64; QUESTION_WORDS]
     requires long { ⌜ 6 ≤ length (now line) ⌝ }
-    requires inside { ⌜ ((k : ℕ) → k < length (now line) → getD (now line) k 0 < length (now text)) ⌝ }
-    requires names { ⌜ ((k : ℕ) → k < length (now names) → getD (now names) k 0 ≤ length (now text)) ⌝ }
-    requires spots { ⌜ 2 * length (now names) ≤ length (now spots) ⌝ }
+    requires within { ⌜ Within (now text) (now line) (now names) (now spots) ⌝ }
     ensures { λ r. ⌜ ((p : Place-at (now (text .entry)) (now (line .entry))) → r ≡ question-words (pair-of (words-at (now (text .entry)) (now (names .entry))) (now (spots .entry))) (place (p .name) (p .x) (p .y) (p .z) (p .w))) ⌝ }
 {
     let spot = name_spot(text, line, names, spots, 1);
@@ -211,9 +207,7 @@ fn pair_question(
     spots: &[u64],
 ) -> [u64; QUESTION_WORDS]
     requires long { ⌜ 3 ≤ length (now line) ⌝ }
-    requires inside { ⌜ ((k : ℕ) → k < length (now line) → getD (now line) k 0 < length (now text)) ⌝ }
-    requires names { ⌜ ((k : ℕ) → k < length (now names) → getD (now names) k 0 ≤ length (now text)) ⌝ }
-    requires spots { ⌜ 2 * length (now names) ≤ length (now spots) ⌝ }
+    requires within { ⌜ Within (now text) (now line) (now names) (now spots) ⌝ }
     ensures { λ r. ⌜ r ≡ number ∷ spot-at (now (text .entry)) (now (names .entry)) (now (spots .entry)) (now (line .entry)) 1 ++ (spot-at (now (text .entry)) (now (names .entry)) (now (spots .entry)) (now (line .entry)) 2 ++ (0 ∷ 0 ∷ [])) ⌝ }
 {
     let one = name_spot(text, line, names, spots, 1);
@@ -224,9 +218,7 @@ fn pair_question(
 /// The question of a model's line.
 fn model_question(text: &[u8], line: &[u64], names: &[u64], spots: &[u64]) -> [u64; QUESTION_WORDS]
     requires long { ⌜ 2 ≤ length (now line) ⌝ }
-    requires inside { ⌜ ((k : ℕ) → k < length (now line) → getD (now line) k 0 < length (now text)) ⌝ }
-    requires names { ⌜ ((k : ℕ) → k < length (now names) → getD (now names) k 0 ≤ length (now text)) ⌝ }
-    requires spots { ⌜ 2 * length (now names) ≤ length (now spots) ⌝ }
+    requires within { ⌜ Within (now text) (now line) (now names) (now spots) ⌝ }
     ensures { λ r. ⌜ r ≡ 3 ∷ spot-at (now (text .entry)) (now (names .entry)) (now (spots .entry)) (now (line .entry)) 1 ++ (0 ∷ 0 ∷ 0 ∷ 0 ∷ []) ⌝ }
 {
     let spot = name_spot(text, line, names, spots, 1);
@@ -242,9 +234,7 @@ fn question_of(
     spots: &[u64],
 ) -> [u64; QUESTION_WORDS]
     requires long { ⌜ tokens-of query ≤ length (now line) ⌝ }
-    requires inside { ⌜ ((k : ℕ) → k < length (now line) → getD (now line) k 0 < length (now text)) ⌝ }
-    requires names { ⌜ ((k : ℕ) → k < length (now names) → getD (now names) k 0 ≤ length (now text)) ⌝ }
-    requires spots { ⌜ 2 * length (now names) ≤ length (now spots) ⌝ }
+    requires within { ⌜ Within (now text) (now line) (now names) (now spots) ⌝ }
     ensures { λ r. ⌜ ((p : Question-at (now (text .entry)) (now (line .entry)) query) → r ≡ question-words (pair-of (words-at (now (text .entry)) (now (names .entry))) (now (spots .entry))) (p .line)) ⌝ }
 {
     match query {

@@ -28,12 +28,14 @@ loop-at-again-in-Part c = part-laid (c .loop-at .inv) (c .loop-at-test .taken) (
 
 pub question-of-question-requires : need.question-of-question-requires
 question-of-question-requires c κs =
-    let t = tail-length (c .loop-at .at) (c .args .tokens .now) in
     record {
       long = asks-room (c .loop-at .inv) (c .loop-at-test .taken) (c .in-Asks .query) (c .in-Asks .ensures tt);
-      inside = tail-inside (c .args .text .now) (c .args .tokens .now) (c .loop-at .at) (c .pre .taken .inside);
-      names = front-inside (c .args .text .now) (c .args .names .now) _ (c .pre .taken .names-inside);
-      spots = simp length-take (omega arith);
+      within =
+          record {
+            line-inside = tail-inside (c .args .text .now) (c .args .tokens .now) (c .loop-at .at) (c .pre .taken .inside);
+            names-inside = front-inside (c .args .text .now) (c .args .names .now) _ (c .pre .taken .names-inside);
+            room = simp length-take (omega arith);
+          };
     }
 
 pub put-question-requires : need.put-question-requires
