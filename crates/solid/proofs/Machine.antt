@@ -1,6 +1,6 @@
 -- What the stack machine does, before any memory: the words of a shape make that shape, and no other.
 --     words-make, made-of, coded-makes               the words of a shape make it
---     makes-one, words-apart, coded-is               and no other
+--     makes-one, words-apart, coded-is, shape-words  and no other
 --     makes-more, makes-all, makes-fit               one step further, at the end, and each step in range
 use mathlib.Core.Path.{_≡_, refl, sym, ap, _∙_, subst}
 use mathlib.Core.List.{List, [], _∷_, _++_, append-assoc}
@@ -14,7 +14,7 @@ use Rattle.solid.specs.declared.types.Step.{Step}
 use Rattle.solid.specs.declared.types.Step.the-variants.{Half, Both, Either, Without}
 use Rattle.solid.specs.Shapes.{Shape, half, both, either, without, planes, Has, Fits}
 use Rattle.solid.specs.Steps.{word, step, words, Fits-step, Coded}
-use Rattle.solid.specs.Stacks.{after, taken, Enough, Makes}
+use Rattle.solid.specs.Stacks.{after, taken, run, top, shape-of, Enough, Makes}
 use Rattle.solid.proofs.Members.{has-here, has-left, has-right}
 use Rattle.solid.proofs.Digits.{step-word}
 
@@ -50,6 +50,15 @@ made (without s t) f u ws st m = joined Without tt (omega arith) s t (made s (fi
 
 pub words-make : (s : Shape) → Fits s → Makes s (words s) []
 words-make s f = subst (λ (l : List ℕ). Makes s l []) (append-nil (words s)) (made s (f .each) s [] [] refl)
+
+-- the shape of steps is the one that they are of
+makes-run : (s : Shape) (ws : List ℕ) (st : List Shape) → Makes s ws st → run ws st ≡ s ∷ []
+makes-run s [] st m = m
+makes-run s (w ∷ ws) st m = makes-run s ws (after (step w) st) (m .1)
+
+pub shape-words : (s : Shape) → Fits s → shape-of (words s) ≡ s
+unfolding shape-of
+shape-words s f = ap top (makes-run s (words s) [] (words-make s f))
 
 -- one shape at most
 pub makes-one : (s t : Shape) (ws : List ℕ) (st : List Shape) → Makes s ws st → Makes t ws st → s ≡ t

@@ -3,12 +3,13 @@ use mathlib.Core.Path.{_≡_}
 use mathlib.Core.Bool.{Bool, true, false}
 use mathlib.Core.List.{List, [], _∷_, _++_}
 use Prim.Native.Nat.{ℕ, suc, _≤_}
+use lib.IntN.{pos}
 use lib.ListN.{length, getD}
 use Rattle.plane.specs.declared.types.Plane.{Plane}
 use Rattle.plane.specs.declared.types.Place.{Place}
 use Rattle.solid.specs.declared.types.Step.{Step}
 use Rattle.solid.specs.declared.types.Step.the-variants.{Half, Both, Either, Without}
-use Rattle.solid.specs.Shapes.{Shape, half, both, either, without, holds}
+use Rattle.solid.specs.Shapes.{Shape, half, both, either, without, holds, plane}
 use Rattle.solid.specs.Steps.{step, Fits-step}
 
 -- the shapes on the stack after a step, the newest first; none where there are too few
@@ -35,6 +36,19 @@ taken Without = 2
 pub record Enough (x : Step) (n : ℕ) : Type 0 where
   pub fits : Fits-step x
   pub many : taken x ≤ n
+
+-- the shapes on the stack after words, and the shape that they leave on top
+abbrev pub run : List ℕ → List Shape → List Shape
+run [] st = st
+run (w ∷ ws) st = run ws (after (step w) st)
+
+abbrev pub top : List Shape → Shape
+top [] = half (plane (pos 1) (pos 0) (pos 0) (pos 0))
+top (s ∷ st) = s
+
+-- the shape of steps
+unfoldable pub shape-of : List ℕ → Shape
+shape-of ws = top (run ws [])
 
 -- from the shapes on the stack, the words make one shape and leave no other
 abbrev pub Makes : Shape → List ℕ → List Shape → Type 0
