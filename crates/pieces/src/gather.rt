@@ -4,8 +4,13 @@ ghost use mathlib.Core.Path.{_≡_};
 ghost use mathlib.Core.List.{_++_};
 ghost use Prim.Native.Nat.{_+_, _≤_};
 ghost use lib.ListN.{length, take};
+ghost use lib.IntN.{pos};
+ghost use Rattle.arith.specs.Bounds.{Short};
+ghost use Rattle.plane.specs.Limits.{reach};
+ghost use Rattle.solid.specs.Shapes.{plane, workshop, planes as planes-of};
 ghost use Rattle.solid.specs.Stacks.{word-planes};
 use plane::types::Plane;
+use plane::types::REACH;
 use solid::steps::step_of;
 use solid::types::Step;
 
@@ -23,4 +28,29 @@ pub(crate) fn gather(steps: &[u64], planes: &mut [Plane], count: usize) -> usize
         }
     }
     n
+}
+
+/// A plane across one axis.
+const fn wall(a: i64, b: i64, c: i64) -> Plane
+    requires { ⌜ Short a 1 ⌝ ∗ ⌜ Short b 1 ⌝ ∗ ⌜ Short c 1 ⌝ }
+    ensures { λ r. ⌜ r ≡ plane a b c (pos reach) ⌝ }
+{
+    Plane { a, b, c, d: REACH as i64 }
+}
+
+/// Puts the planes of the workshop in front; hands back how many they are.
+pub(crate) fn put_walls(planes: &mut [Plane]) -> usize
+    requires { ⌜ 6 ≤ length (now planes) ⌝ }
+    ensures count { λ r. ⌜ r ≡ 6 ⌝ }
+    ensures are { λ r. ⌜ take r (now (planes .exit)) ≡ planes-of workshop ⌝ }
+{
+    planes[0..6].copy_from_slice(&[
+        wall(1, 0, 0),
+        wall(-1, 0, 0),
+        wall(0, 1, 0),
+        wall(0, -1, 0),
+        wall(0, 0, 1),
+        wall(0, 0, -1),
+    ]);
+    6
 }
