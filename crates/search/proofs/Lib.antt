@@ -1,3 +1,4 @@
 pub mod Axes
 pub mod Middles
 pub mod Walks
+pub mod Standing

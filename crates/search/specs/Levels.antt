@@ -97,3 +97,7 @@ pub record Listed (ks ls ms : List ℤ) (q : Place) : Type 0 where
   pub y : Has ls (q .y)
   pub z : Has ms (q .z)
   pub w : q .w ≡ 2
+
+-- the places that stand for all others
+abbrev pub Standing : Option Plane → List Plane → Place → Type 0
+Standing o ps q = Listed (spots o ps X) (spots o ps Y) (spots o ps Z) q

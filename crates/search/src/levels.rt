@@ -9,7 +9,7 @@ ghost use mir.Syntax.{w64};
 ghost use mir.Val.{toZ};
 ghost use Rattle.arith.specs.Bounds.{Short};
 ghost use Rattle.plane.specs.Limits.{Fits-plane, Small-place, slope-limit, offset-limit};
-ghost use Rattle.search.specs.Levels.{All-level, Base-level, slope-along, number-along, base-along, numbers, middles, spots, spot-limit, halved, All-short, Listed};
+ghost use Rattle.search.specs.Levels.{All-level, Base-level, slope-along, number-along, base-along, numbers, middles, spots, spot-limit, halved, All-short, Listed, Standing};
 ghost use Rattle.search.specs.Search.{Found};
 use super::places::Question;
 use plane::types::OFFSET_LIMIT;
@@ -91,6 +91,7 @@ fn write_spots(base: Option<Plane>, planes: &[Plane], axis: Axis, out: &mut [u64
     requires room { ⌜ length (now planes) < length (now out) ⌝ }
     ensures few { λ r. ⌜ r ≤ length (now (planes .entry)) + 1 ⌝ }
     ensures value { λ r. ⌜ numbers (take r (now (out .exit))) ≡ spots base (now (planes .entry)) axis ⌝ }
+    ensures short { λ r. ⌜ All-short (numbers (take r (now (out .exit)))) ⌝ }
 {
     match base_number(base, axis) {
         None => write_middles(planes, axis, out),
@@ -138,4 +139,21 @@ pub(crate) fn first_of<Q: Question>(question: &Q, xs: &[u64], ys: &[u64], zs: &[
         }
     }
     found
+}
+
+/// A place for which the question holds, among those that stand for all places of the base, or for all places.
+pub(crate) fn search<Q: Question>(question: &Q, base: Option<Plane>, planes: &[Plane], lent: &mut [u64], work: &mut [u64]) -> Option<Place>
+    requires ready { ⌜ ready (now question) (length (now work)) ⌝ }
+    requires base { ⌜ Base-level base ⌝ }
+    requires level { ⌜ All-level (now planes) ⌝ }
+    requires room { ⌜ 3 * (length (now planes) + 1) ≤ length (now lent) ⌝ }
+    ensures { λ r. ⌜ Found (Standing base (now (planes .entry))) (asked (now (question .entry))) r ⌝ }
+{
+    let each = planes.len() + 1;
+    let (xs, rest) = lent.split_at_mut(each);
+    let (ys, zs) = rest.split_at_mut(each);
+    let i = write_spots(base, planes, Axis::X, xs);
+    let j = write_spots(base, planes, Axis::Y, ys);
+    let k = write_spots(base, planes, Axis::Z, zs);
+    first_of(question, &xs[..i], &ys[..j], &zs[..k], work)
 }
