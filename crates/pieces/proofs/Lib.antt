@@ -1,2 +1,4 @@
 pub mod Shaped
 pub mod Gathering
+pub mod Sides
+pub mod Levels

@@ -8,7 +8,9 @@ use Rattle.plane.specs.declared.types.Plane.{Plane}
 use Rattle.plane.specs.declared.types.Place.{Place}
 use Rattle.solid.specs.declared.types.Told.{Told}
 use Rattle.solid.specs.declared.types.Told.the-variants.{In, Out, On}
-use Rattle.solid.specs.Shapes.{Shape, planes, solid}
+use Rattle.solid.specs.Shapes.{Shape, Has, planes, solid}
+use Rattle.solid.specs.Stacks.{shape-of}
+use Rattle.search.specs.Levels.{Level}
 use Rattle.solid.specs.Steps.{Coded}
 use Rattle.solid.specs.Examples.{told}
 
@@ -38,3 +40,8 @@ pub record Ready-steps (first second : List ℕ) (n : ℕ) : Type 0 where
   pub second-coded : Coded second
   pub first-room : length first ≤ n
   pub second-room : length second ≤ n
+
+-- steps of a shape whose planes are all level
+pub record Level-steps (ws : List ℕ) : Type 0 where
+  pub coded : Coded ws
+  pub level : (p : Plane) → Has (planes (shape-of ws)) p → Level p

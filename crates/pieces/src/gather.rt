@@ -8,7 +8,9 @@ ghost use lib.IntN.{pos};
 ghost use Rattle.arith.specs.Bounds.{Short};
 ghost use Rattle.plane.specs.Limits.{reach};
 ghost use Rattle.solid.specs.Shapes.{plane, workshop, planes as planes-of};
-ghost use Rattle.solid.specs.Stacks.{word-planes};
+ghost use Rattle.solid.specs.Stacks.{shape-of, word-planes};
+ghost use Rattle.solid.specs.Steps.{Coded};
+ghost use Rattle.pieces.specs.Questions.{planes-of-two};
 use plane::types::Plane;
 use plane::types::REACH;
 use solid::steps::step_of;
@@ -53,4 +55,17 @@ pub(crate) fn put_walls(planes: &mut [Plane]) -> usize
         wall(0, 0, -1),
     ]);
     6
+}
+
+/// Puts the planes of the workshop and of two parts in front; hands back how many they are.
+pub(crate) fn gather_two(first: &[u64], second: &[u64], planes: &mut [Plane]) -> usize
+    requires first { ⌜ Coded (now first) ⌝ }
+    requires second { ⌜ Coded (now second) ⌝ }
+    requires room { ⌜ 6 + length (now first) + length (now second) ≤ length (now planes) ⌝ }
+    ensures few { λ r. ⌜ r ≤ 6 + length (now (first .entry)) + length (now (second .entry)) ⌝ }
+    ensures are { λ r. ⌜ take r (now (planes .exit)) ≡ planes-of-two (shape-of (now (first .entry))) (shape-of (now (second .entry))) ⌝ }
+{
+    let walls = put_walls(planes);
+    let more = gather(first, planes, walls);
+    gather(second, planes, more)
 }

@@ -29,12 +29,12 @@ fn is_inside(steps: &[u64], q: Place, work: &mut [u64]) -> bool
 
 /// Where two parts differ.
 #[derive(Drop)]
-pub struct Difference<'a> {
+pub struct Difference<'a, 'b> {
     pub first: &'a [u64],
-    pub second: &'a [u64],
+    pub second: &'b [u64],
 }
 
-pub impl<'a> Question for Difference<'a> as DifferenceQuestion {
+pub impl<'a, 'b> Question for Difference<'a, 'b> as DifferenceQuestion {
     ghost asked = { λ d q. in-one (shape-of (now (d .first))) (shape-of (now (d .second))) q };
 
     ghost ready = { λ d n. Ready-steps (now (d .first)) (now (d .second)) n };
@@ -48,12 +48,12 @@ pub impl<'a> Question for Difference<'a> as DifferenceQuestion {
 
 /// Where two parts meet.
 #[derive(Drop)]
-pub struct Overlap<'a> {
+pub struct Overlap<'a, 'b> {
     pub first: &'a [u64],
-    pub second: &'a [u64],
+    pub second: &'b [u64],
 }
 
-pub impl<'a> Question for Overlap<'a> as OverlapQuestion {
+pub impl<'a, 'b> Question for Overlap<'a, 'b> as OverlapQuestion {
     ghost asked = { λ d q. in-two (shape-of (now (d .first))) (shape-of (now (d .second))) q };
 
     ghost ready = { λ d n. Ready-steps (now (d .first)) (now (d .second)) n };

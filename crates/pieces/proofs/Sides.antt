@@ -1,0 +1,56 @@
+-- What is told of a place depends on nothing but the sides of the planes.
+use mathlib.Core.Path.{_≡_, refl, sym, _∙_, ap, ap₂}
+use mathlib.Core.List.{List, [], _∷_, _++_}
+use mathlib.Core.Logic.{_⊎_, inl, inr}
+use mathlib.Core.Bool.{Bool, true, false, cond, not, _&&_, _||_}
+use Rattle.plane.specs.declared.types.Plane.{Plane}
+use Rattle.plane.specs.declared.types.Place.{Place}
+use Rattle.plane.specs.Planes.{below, on, side}
+use Rattle.plane.proofs.Heights.{by-side}
+use Rattle.solid.specs.declared.types.Told.{Told}
+use Rattle.solid.specs.declared.types.Told.the-variants.{In, Out, On}
+use Rattle.solid.specs.Shapes.{Shape, Has, planes, solid, workshop, holds, by}
+use Rattle.solid.specs.Examples.{told, on-some}
+use Rattle.solid.proofs.Members.{has-here, has-there, has-left, has-right, has-part}
+use Rattle.solid.proofs.Values.{by-same}
+use Rattle.search.specs.Search.{Agree}
+use Rattle.pieces.specs.Questions.{is-in, inside, in-one, in-two, planes-of-two}
+
+on-agree : (ps : List Plane) (q r : Place) → Agree ps q r → on-some ps q ≡ on-some ps r
+unfolding on-some
+on-agree [] q r a = refl
+on-agree (p ∷ ps) q r a = ap₂ (λ x y. x || y) (by-side p q p r (a p (has-here p ps)) .in-on) (on-agree ps q r (λ s h. a s (has-there p s ps h)))
+
+holds-agree : (s : Shape) (q r : Place) → Agree (planes s) q r → holds s q ≡ holds s r
+unfolding holds
+holds-agree s q r a = by-same (λ p. below p q) (λ p. below p r) s (λ p h. by-side p q p r (a p h) .in-below)
+
+pub told-agree : (s : Shape) (q r : Place) → Agree (planes (solid s)) q r → told s q ≡ told s r
+unfolding told
+told-agree s q r a =
+    ap₂ (λ x y. cond x On (cond y In Out)) (on-agree (planes (solid s)) q r a) (holds-agree (solid s) q r a)
+
+-- so does whether it is in one of two parts only, or in both
+abbrev pub Agree-two : Shape → Shape → Place → Place → Type 0
+Agree-two s t q r = Agree (planes-of-two s t) q r
+
+first-agree : (s t : Shape) (q r : Place) → Agree-two s t q r → inside s q ≡ inside s r
+first-agree s t q r a = ap is-in (told-agree s q r (λ p h. a p (has-left p (planes (solid s)) (planes t) h)))
+
+-- the second part's planes are its own and the workshop's
+second-has : (s t : Shape) (p : Plane) → Has (planes (solid t)) p → Has (planes-of-two s t) p
+unfolding solid planes
+second-has s t p h = go (has-part p (planes workshop) (planes t) h)
+  where
+    go : Has (planes workshop) p ⊎ Has (planes t) p → Has ((planes workshop ++ planes s) ++ planes t) p
+    go (inl k) = has-left p (planes workshop ++ planes s) (planes t) (has-left p (planes workshop) (planes s) k)
+    go (inr k) = has-right p (planes workshop ++ planes s) (planes t) k
+
+second-agree : (s t : Shape) (q r : Place) → Agree-two s t q r → inside t q ≡ inside t r
+second-agree s t q r a = ap is-in (told-agree t q r (λ p h. a p (second-has s t p h)))
+
+pub one-agree : (s t : Shape) (q r : Place) → Agree-two s t q r → in-one s t q ≡ in-one s t r
+one-agree s t q r a = ap₂ (λ x y. cond x (not y) y) (first-agree s t q r a) (second-agree s t q r a)
+
+pub two-agree : (s t : Shape) (q r : Place) → Agree-two s t q r → in-two s t q ≡ in-two s t r
+two-agree s t q r a = ap₂ (λ x y. x && y) (first-agree s t q r a) (second-agree s t q r a)
