@@ -1,31 +1,32 @@
 -- The pass over the lines that lays them into words.
---     starts, part-laid, place-laid, ends      before the first line, after a part's, after a place's, and behind the last
---     part-room, part-there, place-room        the tokens that there are for the next line
+--     starts, part-laid, asks-laid, ends       before the first line, after a part's, after a question's, and behind the last
+--     part-room, part-there, asks-room         the tokens that there are for the next line
 --     tail-length, tail-inside, front-inside   parts of lists of tokens
 use mathlib.Core.Path.{_≡_, refl, sym, _∙_, ap, subst}
 use mathlib.Core.List.{List, [], _∷_, _++_, append-assoc, append-nil}
-use mathlib.Core.Bool.{true, false}
+use mathlib.Core.Bool.{true}
 use Prim.Native.Nat.{ℕ, _+_, _-_, _*_, _≤_, _<_}
 use native.Mathlib.Nat.{zero-add}
 use native.Mathlib.Omega.{arith}
-use lib.Chars.{codes}
-use lib.IntN.{ℤ, natAbs}
-use mir.Syntax.{w64}
-use mir.Val.{ofZ}
+use lib.IntN.{ℤ}
 use lib.ListN.{length, take, drop, getD}
-use Rattle.std.proofs.shelf.Lists.{take-rest, take-at, take-map, drop-all, drop-drop, drop-map, drop-more, getD-take, getD-drop, length-append, length-take, length-drop, length-map, map-push}
+use Rattle.std.proofs.shelf.Lists.{take-rest, take-at, take-map, drop-all, drop-drop, drop-map, getD-take, getD-drop, getD-map, length-append, length-take, length-drop, length-map, map-push}
 use Rattle.solid.specs.Shapes.{box as box-of}
 use Rattle.solid.specs.Steps.{words}
-use Rattle.grammar.specs.Grammar.{box, Name, Line, part, place, same-as, meet, model, same, print}
-use Rattle.grammar.specs.Tokens.{tokAt, codeOf}
+use Rattle.grammar.specs.Grammar.{box, Name, Line, part, place, same-as, meet, model, print}
+use Rattle.grammar.specs.Tokens.{tokAt, codeL, codeOf}
 use Rattle.grammar.specs.Meaning.{Part, questions, fine}
 use Rattle.grammar.proofs.Once.{once}
 use Rattle.reader.specs.Names.{words-at}
-use Rattle.reader.specs.Layout.{Taken, Laid, part-names, part-steps, spot, asked-words}
-use Rattle.reader.specs.Lines.{Part-at, steps-at, pair-of, Place-at, question-at}
+use Rattle.reader.specs.declared.types.LineKind.{LineKind}
+use Rattle.reader.specs.declared.types.LineKind.the-variants.{Part as A-part, Asks}
+use Rattle.reader.specs.declared.types.Query.{Query}
+use Rattle.reader.specs.declared.types.Query.the-variants.{Place, Same, Meet, Model}
+use Rattle.reader.specs.Layout.{Taken, Laid, with-line, part-names, part-steps, spot, question-words, asked-words}
+use Rattle.reader.specs.Lines.{Part-at, steps-at, pair-of, kind-of, begun, tokens-of, Question-at}
 use Rattle.reader.proofs.Numbers.{box-length}
 use Rattle.reader.proofs.Spots.{names-of, steps-of, spots-of, steps-push, spots-push, pair-front, spot-pair}
-use Rattle.reader.proofs.Next.{part-sound, Sound, place-sound, Part-next, Place-next, Next, next, next-part, next-place}
+use Rattle.reader.proofs.Next.{Asking, of-place, of-same, of-meet, of-model, asking, part-sound, Sound, asks-sound, First, first-line, first-kind, A-box, next-part}
 
 -- the tokens from one on, as they are lent
 abbrev pub tail : ℕ → List ℕ → List ℕ
@@ -42,7 +43,7 @@ pub record State (text tokens names spots steps asked : List ℕ) (at parts used
   pub spots-are : take (2 * parts) spots ≡ spots-of 0 before
   pub used-is : used ≡ length (steps-of before)
   pub steps-are : take used steps ++ part-steps before left ≡ part-steps [] lines
-  pub asked-are : take (6 * count) asked ++ asked-words before left ≡ asked-words [] lines
+  pub asked-are : take (7 * count) asked ++ asked-words before left ≡ asked-words [] lines
   pub count-is : count + length (questions before left) ≡ length (questions [] lines)
   pub parts-are : parts ≡ length before
 
@@ -51,7 +52,7 @@ pub record Going (text tokens names spots steps asked : List ℕ) (at parts used
   pub left : List Line
   pub state : State text tokens names spots steps asked at parts used count left
   pub each : used ≡ 11 * parts
-  pub passed : at ≡ 9 * parts + 6 * count
+  pub passed : 9 * parts + 2 * count ≤ at
   pub inside : at ≤ length tokens
   pub room : parts ≤ length names
 
@@ -75,7 +76,7 @@ starts text tokens names spots steps asked t =
             parts-are = refl;
           };
       each = refl;
-      passed = refl;
+      passed = omega arith;
       inside = omega arith;
       room = omega arith;
     }
@@ -155,60 +156,83 @@ module _ {text tokens names spots steps asked : List ℕ} {at parts used count :
           parts-are = ap (λ (m : ℕ). m + 1) (s .parts-are) ∙ sym (length-append ps (p ∷ []));
         }
 
+-- what a line that asks leaves as it is
+record Left (ps : List Part) (l : Line) (q : Query) (more : List Line) : Type 0 where
+  words-behind : drop (tokens-of q) (codeOf (l ∷ more)) ≡ codeOf more
+  long : tokens-of q ≤ length (codeOf (l ∷ more))
+  some : 2 ≤ tokens-of q
+  names : part-names (l ∷ more) ≡ part-names more
+  steps : part-steps ps (l ∷ more) ≡ part-steps ps more
+  parts : with-line ps l ≡ ps
+  one : length (questions ps (l ∷ more)) ≡ 1 + length (questions ps more)
+
+left-by : (ps : List Part) (l : Line) (q : Query) (more : List Line) → Asking l q → Left ps l q more
+left-by ps l q more (of-place n x y z w) =
+    record { words-behind = refl; long = omega arith; some = omega arith; names = refl; steps = refl; parts = refl; one = omega arith }
+left-by ps l q more (of-same n m) =
+    record { words-behind = refl; long = omega arith; some = omega arith; names = refl; steps = refl; parts = refl; one = omega arith }
+left-by ps l q more (of-meet n m) =
+    record { words-behind = refl; long = omega arith; some = omega arith; names = refl; steps = refl; parts = refl; one = omega arith }
+left-by ps l q more (of-model n) =
+    record { words-behind = refl; long = omega arith; some = omega arith; names = refl; steps = refl; parts = refl; one = omega arith }
+
 module _ {text tokens names spots steps asked : List ℕ} {at parts used count : ℕ} where
-  -- a place's line
-  module _ {n : Name} {x y z w : ℤ} {more : List Line} (s : State text tokens names spots steps asked at parts used count (place n x y z w ∷ more)) where
-    place-long : 6 ≤ length (tail at tokens)
-    place-long = omega (arith, simp length-map at (ap length (s .read)))
+  -- a question's line
+  module _ {l : Line} {q : Query} {more : List Line} (k : kind-of l ≡ Asks q) (s : State text tokens names spots steps asked at parts used count (l ∷ more)) where
+    its-left : Left (s .before) l q more
+    its-left = left-by (s .before) l q more (asking l q k)
 
-    its-sound : Sound (names-of (s .before)) n x y z w more
-    its-sound = place-sound (names-of (s .before)) n x y z w more (s .sound)
+    asks-long : tokens-of q ≤ length (tail at tokens)
+    asks-long = omega (arith, its-left .long, simp length-map at (ap length (s .read)))
 
-    place-at : Place-at text (tail at tokens)
-    place-at = record { name = n; x = x; y = y; z = z; w = w; behind = codeOf more; read = s .read; sound = its-sound .numbers }
+    its-sound : Sound (names-of (s .before)) l more
+    its-sound = asks-sound (names-of (s .before)) l q more (asking l q k) (s .sound)
+
+    question-at : Question-at text (tail at tokens) q
+    question-at = record { line = l; is = k; behind = codeOf more; read = s .read; sound = its-sound .numbers }
 
     its-names : words-at text (take (parts - 0) names) ≡ names-of (s .before)
     its-names =
         let l : length (names-of (s .before)) ≡ parts - 0 = simp length-map (omega (arith, s .parts-are)) in
-        sym (take-map (λ p. tokAt (drop p text)) (parts - 0) names) ∙ ap (take (parts - 0)) (s .named) ∙ take-at (names-of (s .before)) (part-names more) (parts - 0) l
+        sym (take-map (λ p. tokAt (drop p text)) (parts - 0) names) ∙ ap (take (parts - 0)) (s .named) ∙ take-at (names-of (s .before)) _ (parts - 0) l
 
-    its-spot : pair-of (words-at text (take (parts - 0) names)) spots (n .0) ≡ spot 0 (s .before) (n .0)
-    its-spot =
+    its-spot : (w : List ℕ) → pair-of (words-at text (take (parts - 0) names)) spots w ≡ spot 0 (s .before) w
+    its-spot w =
         let ns = names-of (s .before) in
         let l : 2 * parts ≡ 2 * length ns = simp length-map (omega (arith, s .parts-are)) in
-        ap (λ (ms : List (List ℕ)). pair-of ms spots (n .0)) its-names ∙ sym (pair-front ns spots (n .0) (2 * parts) l)
-        ∙ ap (λ (ys : List ℕ). pair-of ns ys (n .0)) (s .spots-are)
-        ∙ spot-pair 0 (s .before) (n .0)
+        ap (λ (ms : List (List ℕ)). pair-of ms spots w) its-names ∙ sym (pair-front ns spots w (2 * parts) l)
+        ∙ ap (λ (ys : List ℕ). pair-of ns ys w) (s .spots-are)
+        ∙ spot-pair 0 (s .before) w
 
-    place-step : (asked′ : List ℕ) →
-        take (6 * count + 6) asked′
-        ≡ take (6 * count) asked ++ (pair-of (words-at text (take (parts - 0) names)) spots (n .0) ++ (ofZ w64 x ∷ ofZ w64 y ∷ ofZ w64 z ∷ natAbs w ∷ [])) →
-        State text tokens names spots steps asked′ (at + 6) parts used (count + 1) more
-    place-step asked′ e =
+    asks-step : (asked′ : List ℕ) →
+        take (7 * count + 7) asked′ ≡ take (7 * count) asked ++ question-words (pair-of (words-at text (take (parts - 0) names)) spots) l →
+        State text tokens names spots steps asked′ (at + tokens-of q) parts used (count + 1) more
+    asks-step asked′ e =
         let ps = s .before in
-        let q = ofZ w64 x ∷ ofZ w64 y ∷ ofZ w64 z ∷ natAbs w ∷ [] in
-        let six : 6 * (count + 1) ≡ 6 * count + 6 = omega arith in
+        let t = its-left in
+        let seven : 7 * (count + 1) ≡ 7 * count + 7 = omega arith in
         record {
           lines = s .lines;
           before = ps;
           is = s .is;
-          read = read-on text tokens at 6 _ (s .read);
+          read = read-on text tokens at (tokens-of q) _ (s .read) ∙ t .words-behind;
           sound = its-sound .later;
-          named = s .named;
+          named = s .named ∙ ap (λ (ms : List (List ℕ)). names-of ps ++ ms) (t .names);
           spots-are = s .spots-are;
           used-is = s .used-is;
-          steps-are = s .steps-are;
+          steps-are = ap (λ (ss : List ℕ). take used steps ++ ss) (sym (t .steps)) ∙ s .steps-are;
           asked-are =
-              ap (λ (m : ℕ). take m asked′ ++ asked-words ps more) six ∙ ap (λ (l : List ℕ). l ++ asked-words ps more) e
-              ∙ append-assoc (take (6 * count) asked) _ (asked-words ps more)
-              ∙ ap (λ (l : List ℕ). take (6 * count) asked ++ l) (append-assoc _ q (asked-words ps more) ∙ ap (λ (l : List ℕ). l ++ (q ++ asked-words ps more)) its-spot)
+              ap (λ (m : ℕ). take m asked′ ++ asked-words ps more) seven ∙ ap (λ (l : List ℕ). l ++ asked-words ps more) e
+              ∙ append-assoc (take (7 * count) asked) _ (asked-words ps more)
+              ∙ ap (λ (at : List ℕ → List ℕ). take (7 * count) asked ++ (question-words at l ++ asked-words ps more)) (λ i w. its-spot w i)
+              ∙ ap (λ (qs : List Part). take (7 * count) asked ++ (question-words (spot 0 ps) l ++ asked-words qs more)) (sym (t .parts))
               ∙ s .asked-are;
-          count-is = omega (arith, s .count-is);
+          count-is = omega (arith, s .count-is, t .one);
           parts-are = s .parts-are;
         }
 
 module _ {text tokens names spots steps asked : List ℕ} {at parts used count : ℕ} where
-  going : {left : List Line} → State text tokens names spots steps asked at parts used count left → used ≡ 11 * parts → at ≡ 9 * parts + 6 * count → at ≤ length tokens →
+  going : {left : List Line} → State text tokens names spots steps asked at parts used count left → used ≡ 11 * parts → 9 * parts + 2 * count ≤ at → at ≤ length tokens →
       Going text tokens names spots steps asked at parts used count
   going {left} s e f h =
       let l : length names ≡ length (s .before) + length (part-names left) = simp (length-map, length-append) at (ap length (s .named)) in
@@ -216,19 +240,27 @@ module _ {text tokens names spots steps asked : List ℕ} {at parts used count :
 
 module _ {text tokens names spots steps asked : List ℕ} {at parts used count : ℕ} where
   module _ (g : Going text tokens names spots steps asked at parts used count) (h : at < length tokens) where
-    first : Next (g .left) (tokAt (drop (getD (tail at tokens) 0 0) text))
-    first =
-        let l : 0 < length (tail at tokens) = omega (arith, tail-length at tokens) in
-        let e : tail at tokens ≡ getD (tail at tokens) 0 0 ∷ drop 1 (tail at tokens) = drop-more (tail at tokens) 0 0 l in
-        next (names-of (g .state .before)) (g .left) _ _ (g .state .sound) (sym (ap (words-at text) e) ∙ g .state .read)
+    first : First (g .left)
+    first = first-line (g .left) (omega (arith, tail-length at tokens, simp length-map at (ap length (g .state .read))))
+
+    at-first : State text tokens names spots steps asked at parts used count (first .line ∷ first .more)
+    at-first = subst (λ (ls : List Line). State text tokens names spots steps asked at parts used count ls) (first .is) (g .state)
+
+    -- what it begins with says what it is
+    module _ (k : LineKind) (e : k ≡ begun (tokAt (drop (getD (tail at tokens) 0 0) text))) where
+      its-kind : kind-of (first .line) ≡ k
+      its-kind =
+          let l : 0 < length (tail at tokens) = omega (arith, tail-length at tokens) in
+          let r = ap (λ (ws : List (List ℕ)). getD ws 0 []) (at-first .read) in
+          sym (e ∙ ap begun (sym (getD-map (λ p. tokAt (drop p text)) (tail at tokens) 0 0 [] l) ∙ r) ∙ first-kind (first .line) (codeOf (first .more)))
 
     -- a part comes next
-    module _ (e : true ≡ same (codes "part") (tokAt (drop (getD (tail at tokens) 0 0) text))) where
-      its-part : Part-next (g .left)
-      its-part = next-part (g .left) _ first (sym e)
+    module _ (e : A-part ≡ begun (tokAt (drop (getD (tail at tokens) 0 0) text))) where
+      its-part : A-box (first .line)
+      its-part = next-part (names-of (at-first .before)) (first .line) (first .more) (at-first .sound) (its-kind A-part e)
 
-      at-part : let p = its-part in State text tokens names spots steps asked at parts used count (part (p .name) (box (p .x0) (p .x1) (p .y0) (p .y1) (p .z0) (p .z1)) ∷ p .more)
-      at-part = subst (λ (ls : List Line). State text tokens names spots steps asked at parts used count ls) (its-part .is) (g .state)
+      at-part : let p = its-part in State text tokens names spots steps asked at parts used count (part (p .name) (box (p .x0) (p .x1) (p .y0) (p .y1) (p .z0) (p .z1)) ∷ first .more)
+      at-part = subst (λ (l : Line). State text tokens names spots steps asked at parts used count (l ∷ first .more)) (its-part .is) at-first
 
       pub part-room : 9 ≤ length (tail at tokens)
       part-room = part-long at-part
@@ -244,29 +276,31 @@ module _ {text tokens names spots steps asked : List ℕ} {at parts used count :
           let l = part-room in
           going (part-step at-part spots′ steps′ es (et part-there)) (omega (arith, g .each)) (omega (arith, g .passed)) (omega (arith, tail-length at tokens))
 
-    -- a place comes next
-    module _ (e : false ≡ same (codes "part") (tokAt (drop (getD (tail at tokens) 0 0) text))) where
-      its-place : Place-next (g .left)
-      its-place = next-place (g .left) _ first (sym e)
+    -- a question comes next
+    module _ (q : Query) (e : Asks q ≡ begun (tokAt (drop (getD (tail at tokens) 0 0) text))) where
+      asks-some : 2 ≤ tokens-of q
+      asks-some = its-left (its-kind (Asks q) e) at-first .some
 
-      at-place : let p = its-place in State text tokens names spots steps asked at parts used count (place (p .name) (p .x) (p .y) (p .z) (p .w) ∷ p .more)
-      at-place = subst (λ (ls : List Line). State text tokens names spots steps asked at parts used count ls) (its-place .is) (g .state)
+      pub asks-room : tokens-of q ≤ length (tail at tokens)
+      asks-room = asks-long (its-kind (Asks q) e) at-first
 
-      pub place-room : 6 ≤ length (tail at tokens)
-      place-room = place-long at-place
+      pub asks-fits : 7 * count + 7 ≤ 4 * length tokens
+      asks-fits = omega (arith, asks-some, asks-room, tail-length at tokens, g .passed)
 
-      pub place-laid : (asked′ : List ℕ) →
-          ((p : Place-at text (tail at tokens)) →
-          take (6 * count + 6) asked′
-          ≡ take (6 * count) asked ++ question-at (words-at text (take (parts - 0) names)) spots p) →
-          Going text tokens names spots steps asked′ (at + 6) parts used (count + 1)
-      unfolding place-at
-      place-laid asked′ ea =
-          let l = place-room in
-          going (place-step at-place asked′ (ea (place-at at-place))) (g .each) (omega (arith, g .passed)) (omega (arith, tail-length at tokens))
+      pub asks-laid : (n : ℕ) (asked′ r : List ℕ) → n ≡ tokens-of q → take (7 * count + 7) asked′ ≡ take (7 * count) asked ++ r →
+          ((p : Question-at text (tail at tokens) q) → r ≡ question-words (pair-of (words-at text (take (parts - 0) names)) spots) (p .line)) →
+          Going text tokens names spots steps asked′ (at + n) parts used (count + 1)
+      unfolding question-at
+      asks-laid n asked′ r en ea er =
+          let l = asks-room in
+          let m = asks-some in
+          let k = its-kind (Asks q) e in
+          let ek = ea ∙ ap (λ (ys : List ℕ). take (7 * count) asked ++ ys) (er (question-at k at-first)) in
+          subst (λ (n : ℕ). Going text tokens names spots steps asked′ (at + n) parts used (count + 1)) (sym en)
+          (going (asks-step k at-first asked′ ek) (g .each) (omega (arith, g .passed)) (omega (arith, tail-length at tokens)))
 
   -- no line is left
-  pub ends : Going text tokens names spots steps asked at parts used count → length tokens ≤ at → 2 * length tokens ≤ length steps → length tokens ≤ length asked →
+  pub ends : Going text tokens names spots steps asked at parts used count → length tokens ≤ at → 2 * length tokens ≤ length steps → 4 * length tokens ≤ length asked →
       (ls : List Line) → text ≡ print ls → Laid ls (record { used = used; asked = count }) steps asked
   ends g h rs ra ls e = subst (λ (ms : List Line). Laid ms (record { used = used; asked = count }) steps asked) (once (s .lines) ls (sym (s .is) ∙ e)) laid
     where
@@ -288,7 +322,7 @@ module _ {text tokens names spots steps asked : List ℕ} {at parts used count :
           record {
             steps-are = sym (append-nil (take used steps)) ∙ s .steps-are;
             used-fits = omega (arith, g .each, g .passed, g .inside);
-            asked-are = sym (append-nil (take (6 * count) asked)) ∙ s .asked-are;
+            asked-are = sym (append-nil (take (7 * count) asked)) ∙ s .asked-are;
             asked-fits = omega (arith, g .passed, g .inside);
             count = omega (arith, s .count-is);
           }

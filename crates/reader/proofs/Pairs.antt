@@ -1,5 +1,5 @@
 -- Two words for each name.
---     pair-read, pair-whole, pair-written      two words read, all there are, and written
+--     pair-read, pair-then, pair-written       two words read, with others behind them, and written
 --     written                                  some words written behind others
 --     pair-none, pair-some                     the pair of a name, by its rank
 use mathlib.Core.Path.{_≡_, refl, sym, _∙_, ap, subst}
@@ -24,11 +24,14 @@ pair-read ps i h =
     let a : i < length ps = omega arith in
     sym (ap (take 2) (drop-more ps i 0 a ∙ ap (λ (xs : List ℕ). getD ps i 0 ∷ xs) (drop-more ps (i + 1) 0 h)))
 
-pub pair-whole : (ps : List ℕ) → length ps ≡ 2 → getD ps 0 0 ∷ getD ps 1 0 ∷ [] ≡ ps
+pair-whole : (ps : List ℕ) → length ps ≡ 2 → getD ps 0 0 ∷ getD ps 1 0 ∷ [] ≡ ps
 pair-whole [] h = absurd (omega arith)
 pair-whole (a ∷ []) h = absurd (omega arith)
 pair-whole (a ∷ (b ∷ [])) h = refl
 pair-whole (a ∷ (b ∷ (d ∷ ps))) h = absurd (omega arith)
+
+pub pair-then : (ps qs r : List ℕ) → length ps ≡ 2 → ps ≡ qs → getD ps 0 0 ∷ getD ps 1 0 ∷ r ≡ qs ++ r
+pair-then ps qs r h e = ap (λ (xs : List ℕ). xs ++ r) (pair-whole ps h ∙ e)
 
 pub pair-written : (xs : List ℕ) (i a b : ℕ) → i + 2 ≤ length xs → take (i + 2) (set (set xs i a) (i + 1) b) ≡ take i xs ++ a ∷ b ∷ []
 pair-written xs i a b h =

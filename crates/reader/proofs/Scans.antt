@@ -62,9 +62,9 @@ module _ (names : List (List ℕ)) (t : Token) (ts : List Token) where
   pub line-right : (rs : List Role) → (same (t .word) (codes "part") && leb most-parts (length names)) ≡ false → behind-line (t .word) ≡ rs →
       (scan names [] (t ∷ ts) ≡ scan names rs ts) × (named-in [] (t ∷ ts) ≡ [] ++ named-in rs ts)
   line-right rs e f = (
-      so-right (same (t .word) (codes "part") && leb most-parts (length names)) 3 t (scan names (behind-line (t .word)) ts) e ∙ ap (λ (qs : List Role). scan names qs ts) f,
-      ap (λ (qs : List Role). named-in qs ts) f
-    )
+    so-right (same (t .word) (codes "part") && leb most-parts (length names)) 3 t (scan names (behind-line (t .word)) ts) e ∙ ap (λ (qs : List Role). scan names qs ts) f,
+    ap (λ (qs : List Role). named-in qs ts) f,
+  )
 
   -- a shape that is not taken yet
   pub shape-wrong : same (t .word) (codes "box") ≡ false → scan names (shape ∷ []) (t ∷ ts) ≡ fault 1 (t .start) ∷ scan names (behind-shape (t .word) []) ts

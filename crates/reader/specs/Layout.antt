@@ -1,4 +1,4 @@
--- How a text that is taken lies in words: the steps of its parts, one part behind the other, and its questions, six words each.
+-- How a text that is taken lies in words: the steps of its parts, one part behind the other, and its questions, seven words each.
 use mathlib.Core.Path.{_≡_}
 use mathlib.Core.List.{List, [], _∷_, _++_}
 use mathlib.Core.Bool.{true, cond}
@@ -8,15 +8,19 @@ use lib.ListN.{length, take, getD}
 use mir.Syntax.{w64}
 use mir.Val.{ofZ}
 use Rattle.solid.specs.Steps.{words}
-use Rattle.grammar.specs.Grammar.{Name, Expr, Line, part, place, same-as, meet, model, same, print}
+use Rattle.grammar.specs.Grammar.{Line, part, place, same-as, meet, model, same, print}
 use Rattle.grammar.specs.Tokens.{codeOf}
 use Rattle.grammar.specs.Meaning.{Part, says, questions, fine}
 use Rattle.reader.specs.declared.types.Counts.{Counts}
 use Rattle.reader.specs.Names.{words-at}
 
--- the parts after one more
-abbrev pub with-part : List Part → Name → Expr → List Part
-with-part ps n e = ps ++ record { name = n .0; shape = says ps e } ∷ []
+-- the parts after a line
+abbrev pub with-line : List Part → Line → List Part
+with-line ps (part n e) = ps ++ record { name = n .0; shape = says ps e } ∷ []
+with-line ps (place n x y z w) = ps
+with-line ps (same-as n m) = ps
+with-line ps (meet n m) = ps
+with-line ps (model n) = ps
 
 -- the names of the parts, in their order
 abbrev pub part-names : List Line → List (List ℕ)
@@ -30,7 +34,7 @@ part-names (model n ∷ ls) = part-names ls
 -- the steps of all parts
 abbrev pub part-steps : List Part → List Line → List ℕ
 part-steps ps [] = []
-part-steps ps (part n e ∷ ls) = words (says ps e) ++ part-steps (with-part ps n e) ls
+part-steps ps (part n e ∷ ls) = words (says ps e) ++ part-steps (with-line ps (part n e)) ls
 part-steps ps (place n x y z w ∷ ls) = part-steps ps ls
 part-steps ps (same-as n m ∷ ls) = part-steps ps ls
 part-steps ps (meet n m ∷ ls) = part-steps ps ls
@@ -41,14 +45,18 @@ abbrev pub spot : ℕ → List Part → List ℕ → List ℕ
 spot u [] w = 0 ∷ 0 ∷ []
 spot u (p ∷ ps) w = cond (same w (p .name)) (u ∷ length (words (p .shape)) ∷ []) (spot (u + length (words (p .shape))) ps w)
 
--- the questions: the part's spot, and the place
+-- the words of a line's question: its kind, the part's spot, and a place or another part's spot; `at` tells the spot of a name
+abbrev pub question-words : (List ℕ → List ℕ) → Line → List ℕ
+question-words at (part n e) = []
+question-words at (place n x y z w) = 0 ∷ at (n .0) ++ (ofZ w64 x ∷ ofZ w64 y ∷ ofZ w64 z ∷ natAbs w ∷ [])
+question-words at (same-as n m) = 1 ∷ at (n .0) ++ (at (m .0) ++ (0 ∷ 0 ∷ []))
+question-words at (meet n m) = 2 ∷ at (n .0) ++ (at (m .0) ++ (0 ∷ 0 ∷ []))
+question-words at (model n) = 3 ∷ at (n .0) ++ (0 ∷ 0 ∷ 0 ∷ 0 ∷ [])
+
+-- the words of all questions
 abbrev pub asked-words : List Part → List Line → List ℕ
 asked-words ps [] = []
-asked-words ps (part n e ∷ ls) = asked-words (with-part ps n e) ls
-asked-words ps (place n x y z w ∷ ls) = spot 0 ps (n .0) ++ (ofZ w64 x ∷ ofZ w64 y ∷ ofZ w64 z ∷ natAbs w ∷ asked-words ps ls)
-asked-words ps (same-as n m ∷ ls) = asked-words ps ls
-asked-words ps (meet n m ∷ ls) = asked-words ps ls
-asked-words ps (model n ∷ ls) = asked-words ps ls
+asked-words ps (l ∷ ls) = question-words (spot 0 ps) l ++ asked-words (with-line ps l) ls
 
 -- the words of a text that is taken, and the names of its parts, as they lie in it
 pub record Taken (text tokens names : List ℕ) : Type 0 where
@@ -64,6 +72,6 @@ pub record Taken (text tokens names : List ℕ) : Type 0 where
 pub record Laid (ls : List Line) (n : Counts) (steps asked : List ℕ) : Type 0 where
   pub steps-are : take (n .used) steps ≡ part-steps [] ls
   pub used-fits : n .used ≤ length steps
-  pub asked-are : take (6 * n .asked) asked ≡ asked-words [] ls
-  pub asked-fits : 6 * n .asked ≤ length asked
+  pub asked-are : take (7 * n .asked) asked ≡ asked-words [] ls
+  pub asked-fits : 7 * n .asked ≤ length asked
   pub count : n .asked ≡ length (questions [] ls)

@@ -1,17 +1,20 @@
 -- Lines that are taken, as they lie in a text, and the words that they are laid into.
 use mathlib.Core.Path.{_≡_}
 use mathlib.Core.List.{List, [], _∷_, _++_}
-use mathlib.Core.Bool.{true, cond, _&&_}
+use mathlib.Core.Bool.{Bool, true, false, cond, _&&_}
 use Prim.Native.Nat.{ℕ}
-use lib.IntN.{ℤ, natAbs}
-use lib.ListN.{take, drop}
-use mir.Syntax.{w64}
-use mir.Val.{ofZ}
+use lib.Chars.{codes}
+use lib.IntN.{ℤ}
+use lib.ListN.{take, drop, getD}
 use Rattle.solid.specs.Shapes.{box as box-of}
 use Rattle.solid.specs.Steps.{words}
-use Rattle.grammar.specs.Grammar.{Name, box, part, place, same}
-use Rattle.grammar.specs.Tokens.{codeL}
+use Rattle.grammar.specs.Grammar.{Name, box, Line, part, place, same-as, meet, model, same}
+use Rattle.grammar.specs.Tokens.{tokAt, codeL}
 use Rattle.grammar.specs.Meaning.{short, scales, fine-shape}
+use Rattle.reader.specs.declared.types.LineKind.{LineKind}
+use Rattle.reader.specs.declared.types.LineKind.the-variants.{Part, Asks}
+use Rattle.reader.specs.declared.types.Query.{Query}
+use Rattle.reader.specs.declared.types.Query.the-variants.{Place, Same, Meet, Model}
 use Rattle.reader.specs.Names.{words-at}
 
 -- words begin with a part's line that is taken
@@ -36,7 +39,46 @@ abbrev pub pair-of : List (List ℕ) → List ℕ → List ℕ → List ℕ
 pair-of [] pairs w = 0 ∷ 0 ∷ []
 pair-of (n ∷ ns) pairs w = cond (same w n) (take 2 pairs) (pair-of ns (drop 2 pairs) w)
 
--- words begin with a question about a place that is taken
+-- what a line is
+abbrev pub kind-of : Line → LineKind
+kind-of (part n e) = Part
+kind-of (place n x y z w) = Asks Place
+kind-of (same-as n m) = Asks Same
+kind-of (meet n m) = Asks Meet
+kind-of (model n) = Asks Model
+
+-- what a line is, by the word that it begins with
+abbrev pub begun : List ℕ → LineKind
+begun w =
+    cond (same w (codes "part")) Part
+    (cond (same w (codes "place")) (Asks Place)
+    (cond (same w (codes "same")) (Asks Same)
+    (cond (same w (codes "meet")) (Asks Meet) (Asks Model))))
+
+-- how many words and numbers a question's line has
+abbrev pub tokens-of : Query → ℕ
+tokens-of Place = 6
+tokens-of Same = 3
+tokens-of Meet = 3
+tokens-of Model = 2
+
+-- the numbers of a question's line are in range
+abbrev pub in-range : Line → Bool
+in-range (part n e) = false
+in-range (place n x y z w) = short x && (short y && (short z && scales w))
+in-range (same-as n m) = true
+in-range (meet n m) = true
+in-range (model n) = true
+
+-- words begin with a question that is taken
+pub record Question-at (text tokens : List ℕ) (q : Query) : Type 0 where
+  pub line : Line
+  pub is : kind-of line ≡ Asks q
+  pub behind : List (List ℕ)
+  pub read : words-at text tokens ≡ codeL line behind
+  pub sound : in-range line ≡ true
+
+-- words begin with a question about a place
 pub record Place-at (text tokens : List ℕ) : Type 0 where
   pub name : Name
   pub x : ℤ
@@ -45,8 +87,8 @@ pub record Place-at (text tokens : List ℕ) : Type 0 where
   pub w : ℤ
   pub behind : List (List ℕ)
   pub read : words-at text tokens ≡ codeL (place name x y z w) behind
-  pub sound : (short x && (short y && (short z && scales w))) ≡ true
+  pub sound : in-range (place name x y z w) ≡ true
 
--- the words of its question
-abbrev pub question-at : {text tokens : List ℕ} → List (List ℕ) → List ℕ → Place-at text tokens → List ℕ
-question-at names spots p = pair-of names spots (p .name .0) ++ (ofZ w64 (p .x) ∷ ofZ w64 (p .y) ∷ ofZ w64 (p .z) ∷ natAbs (p .w) ∷ [])
+-- the spot of the part whose name is the k-th of some words, where each of some names has two words
+abbrev pub spot-at : List ℕ → List ℕ → List ℕ → List ℕ → ℕ → List ℕ
+spot-at text names spots line k = pair-of (words-at text names) spots (tokAt (drop (getD line k 0) text))

@@ -3,23 +3,25 @@
 ghost use mathlib.Core.Path.{_≡_};
 ghost use mathlib.Core.List.{List, [], _∷_, _++_};
 ghost use Prim.Native.Nat.{ℕ, _+_, _*_, _<_, _≤_};
-ghost use lib.Chars.{codes};
 ghost use lib.IntN.{ℤ};
 ghost use lib.ListN.{length, take, drop, getD};
 ghost use Rattle.arith.specs.Bounds.{Short};
 ghost use Rattle.plane.specs.Limits.{Fits-plane};
 ghost use Rattle.solid.specs.Shapes.{plane, box};
 ghost use Rattle.solid.specs.Steps.{word, words};
-ghost use Rattle.grammar.specs.Grammar.{signed, same, Line, print};
+ghost use Rattle.grammar.specs.Grammar.{signed, Line, place, print};
 ghost use Rattle.grammar.specs.Tokens.{tokAt};
 ghost use Rattle.grammar.specs.Values.{number-limit};
-ghost use Rattle.reader.specs.Layout.{Taken, Laid};
-ghost use Rattle.reader.specs.Lines.{Part-at, steps-at, pair-of, Place-at, question-at};
+ghost use Rattle.reader.specs.Layout.{Taken, Laid, question-words};
+ghost use Rattle.reader.specs.Lines.{Part-at, steps-at, pair-of, begun, tokens-of, Question-at, Place-at, spot-at};
 ghost use Rattle.reader.specs.Names.{words-at};
+use super::looks::same_word;
 use super::tokens::find_name;
 use super::tokens::number_at;
 use super::tokens::token_at;
 use super::types::Counts;
+use super::types::LineKind;
+use super::types::Query;
 use plane::types::Plane;
 use solid::steps::word_of;
 use solid::types::Step;
@@ -27,14 +29,11 @@ use solid::types::Step;
 /// How many words and numbers the line of a part has.
 const PART_TOKENS: usize = 9;
 
-/// How many words and numbers the line of a place has.
-const PLACE_TOKENS: usize = 6;
-
 /// How many steps a box has.
 const BOX_STEPS: usize = 11;
 
 /// How many words a question has.
-const QUESTION_WORDS: usize = 6;
+const QUESTION_WORDS: usize = 7;
 
 /// The word of a half-space.
 fn half_word(a: i64, b: i64, c: i64, d: i64) -> u64
@@ -93,12 +92,36 @@ fn box_of(text: &[u8], line: &[u64]) -> [u64; BOX_STEPS]
     box_words(x0, x1, y0, y1, z0, z1)
 }
 
-/// Whether the word that begins at a byte begins a part's line.
-fn is_part(text: &[u8], from: u64) -> bool
+/// What a line is, by the word that begins at a byte.
+fn line_kind(text: &[u8], from: u64) -> LineKind
     requires { ⌜ from < length (now text) ⌝ }
-    ensures { λ r. ⌜ r ≡ same (codes "part") (tokAt (drop from (now (text .entry)))) ⌝ }
+    ensures { λ r. ⌜ r ≡ begun (tokAt (drop from (now (text .entry)))) ⌝ }
 {
-    token_at(text, from as usize) == b"part"
+    let word = token_at(text, from as usize);
+    if same_word(word, b"part") {
+        return LineKind::Part;
+    }
+    if same_word(word, b"place") {
+        return LineKind::Asks(Query::Place);
+    }
+    if same_word(word, b"same") {
+        return LineKind::Asks(Query::Same);
+    }
+    if same_word(word, b"meet") {
+        return LineKind::Asks(Query::Meet);
+    }
+    LineKind::Asks(Query::Model)
+}
+
+/// How many words and numbers the line of a question has.
+fn query_tokens(query: Query) -> usize
+    ensures { λ r. ⌜ r ≡ tokens-of query ⌝ }
+{
+    match query {
+        Query::Place => 6,
+        Query::Same | Query::Meet => 3,
+        Query::Model => 2,
+    }
 }
 
 /// The i-th pair of words.
@@ -144,35 +167,99 @@ fn part_line(
     spots[2 * parts + 1] = BOX_STEPS as u64;
 }
 
-/// A place's line: writes its question behind the first `count`.
-fn place_line(
-    text: &[u8],
-    line: &[u64],
-    names: &[u64],
-    spots: &[u64],
-    count: usize,
-    asked: &mut [u64],
-)
+/// The two words that belong to the name that is the k-th word of a line.
+fn name_spot(text: &[u8], line: &[u64], names: &[u64], spots: &[u64], k: usize) -> [u64; 2]
+    requires long { ⌜ k < length (now line) ⌝ }
+    requires inside { ⌜ ((k : ℕ) → k < length (now line) → getD (now line) k 0 < length (now text)) ⌝ }
+    requires names { ⌜ ((k : ℕ) → k < length (now names) → getD (now names) k 0 ≤ length (now text)) ⌝ }
+    requires spots { ⌜ 2 * length (now names) ≤ length (now spots) ⌝ }
+    ensures { λ r. ⌜ r ≡ spot-at (now (text .entry)) (now (names .entry)) (now (spots .entry)) (now (line .entry)) k ⌝ }
+{
+    spot_of(text, names, spots, token_at(text, line[k] as usize))
+}
+
+/// The question of a place's line.
+fn place_question(text: &[u8], line: &[u64], names: &[u64], spots: &[u64]) -> [u64; QUESTION_WORDS]
     requires long { ⌜ 6 ≤ length (now line) ⌝ }
     requires inside { ⌜ ((k : ℕ) → k < length (now line) → getD (now line) k 0 < length (now text)) ⌝ }
     requires names { ⌜ ((k : ℕ) → k < length (now names) → getD (now names) k 0 ≤ length (now text)) ⌝ }
     requires spots { ⌜ 2 * length (now names) ≤ length (now spots) ⌝ }
-    requires asked_room { ⌜ 6 * count + 6 ≤ length (now asked) ⌝ }
-    ensures { λ _. ⌜ ((p : Place-at (now (text .entry)) (now (line .entry))) → take (6 * count + 6) (now (asked .exit)) ≡ take (6 * count) (now (asked .entry)) ++ question-at (words-at (now (text .entry)) (now (names .entry))) (now (spots .entry)) p) ⌝ }
+    ensures { λ r. ⌜ ((p : Place-at (now (text .entry)) (now (line .entry))) → r ≡ question-words (pair-of (words-at (now (text .entry)) (now (names .entry))) (now (spots .entry))) (place (p .name) (p .x) (p .y) (p .z) (p .w))) ⌝ }
 {
-    let spot = spot_of(text, names, spots, token_at(text, line[1] as usize));
+    let spot = name_spot(text, line, names, spots, 1);
     let x = number(text, line[2]);
     let y = number(text, line[3]);
     let z = number(text, line[4]);
     let w = number(text, line[5]);
-    let question = [
+    [
+        0,
         spot[0],
         spot[1],
         x.cast_unsigned(),
         y.cast_unsigned(),
         z.cast_unsigned(),
         w.cast_unsigned(),
-    ];
+    ]
+}
+
+/// The question of a line with the names of two parts, which asks what the number says.
+fn pair_question(
+    number: u64,
+    text: &[u8],
+    line: &[u64],
+    names: &[u64],
+    spots: &[u64],
+) -> [u64; QUESTION_WORDS]
+    requires long { ⌜ 3 ≤ length (now line) ⌝ }
+    requires inside { ⌜ ((k : ℕ) → k < length (now line) → getD (now line) k 0 < length (now text)) ⌝ }
+    requires names { ⌜ ((k : ℕ) → k < length (now names) → getD (now names) k 0 ≤ length (now text)) ⌝ }
+    requires spots { ⌜ 2 * length (now names) ≤ length (now spots) ⌝ }
+    ensures { λ r. ⌜ r ≡ number ∷ spot-at (now (text .entry)) (now (names .entry)) (now (spots .entry)) (now (line .entry)) 1 ++ (spot-at (now (text .entry)) (now (names .entry)) (now (spots .entry)) (now (line .entry)) 2 ++ (0 ∷ 0 ∷ [])) ⌝ }
+{
+    let one = name_spot(text, line, names, spots, 1);
+    let other = name_spot(text, line, names, spots, 2);
+    [number, one[0], one[1], other[0], other[1], 0, 0]
+}
+
+/// The question of a model's line.
+fn model_question(text: &[u8], line: &[u64], names: &[u64], spots: &[u64]) -> [u64; QUESTION_WORDS]
+    requires long { ⌜ 2 ≤ length (now line) ⌝ }
+    requires inside { ⌜ ((k : ℕ) → k < length (now line) → getD (now line) k 0 < length (now text)) ⌝ }
+    requires names { ⌜ ((k : ℕ) → k < length (now names) → getD (now names) k 0 ≤ length (now text)) ⌝ }
+    requires spots { ⌜ 2 * length (now names) ≤ length (now spots) ⌝ }
+    ensures { λ r. ⌜ r ≡ 3 ∷ spot-at (now (text .entry)) (now (names .entry)) (now (spots .entry)) (now (line .entry)) 1 ++ (0 ∷ 0 ∷ 0 ∷ 0 ∷ []) ⌝ }
+{
+    let spot = name_spot(text, line, names, spots, 1);
+    [3, spot[0], spot[1], 0, 0, 0, 0]
+}
+
+/// The question of a line.
+fn question_of(
+    query: Query,
+    text: &[u8],
+    line: &[u64],
+    names: &[u64],
+    spots: &[u64],
+) -> [u64; QUESTION_WORDS]
+    requires long { ⌜ tokens-of query ≤ length (now line) ⌝ }
+    requires inside { ⌜ ((k : ℕ) → k < length (now line) → getD (now line) k 0 < length (now text)) ⌝ }
+    requires names { ⌜ ((k : ℕ) → k < length (now names) → getD (now names) k 0 ≤ length (now text)) ⌝ }
+    requires spots { ⌜ 2 * length (now names) ≤ length (now spots) ⌝ }
+    ensures { λ r. ⌜ ((p : Question-at (now (text .entry)) (now (line .entry)) query) → r ≡ question-words (pair-of (words-at (now (text .entry)) (now (names .entry))) (now (spots .entry))) (p .line)) ⌝ }
+{
+    match query {
+        Query::Place => place_question(text, line, names, spots),
+        Query::Same => pair_question(1, text, line, names, spots),
+        Query::Meet => pair_question(2, text, line, names, spots),
+        Query::Model => model_question(text, line, names, spots),
+    }
+}
+
+/// Writes a question behind the first `count`.
+fn put_question(question: [u64; QUESTION_WORDS], count: usize, asked: &mut [u64])
+    requires { ⌜ 7 * count + 7 ≤ length (now asked) ⌝ }
+    ensures { λ _. ⌜ take (7 * count + 7) (now (asked .exit)) ≡ take (7 * count) (now (asked .entry)) ++ question ⌝ }
+{
     let start = QUESTION_WORDS * count;
     asked[start..start + QUESTION_WORDS].copy_from_slice(&question);
 }
@@ -189,7 +276,7 @@ pub(crate) fn build(
     requires taken { ⌜ Taken (now text) (now tokens) (now names) ⌝ }
     requires spots_room { ⌜ length (now tokens) ≤ length (now spots) ⌝ }
     requires steps_room { ⌜ 2 * length (now tokens) ≤ length (now steps) ⌝ }
-    requires asked_room { ⌜ length (now tokens) ≤ length (now asked) ⌝ }
+    requires asked_room { ⌜ 4 * length (now tokens) ≤ length (now asked) ⌝ }
     ensures { λ r. ⌜ ((ls : List Line) → now (text .entry) ≡ print ls → Laid ls r (now (steps .exit)) (now (asked .exit))) ⌝ }
 {
     let mut at = 0;
@@ -198,15 +285,19 @@ pub(crate) fn build(
     let mut count = 0;
     while at < tokens.len() {
         let line = &tokens[at..];
-        if is_part(text, line[0]) {
-            part_line(text, line, parts, used, spots, steps);
-            at += PART_TOKENS;
-            parts += 1;
-            used += BOX_STEPS;
-        } else {
-            place_line(text, line, &names[0..parts], spots, count, asked);
-            at += PLACE_TOKENS;
-            count += 1;
+        match line_kind(text, line[0]) {
+            LineKind::Part => {
+                part_line(text, line, parts, used, spots, steps);
+                at += PART_TOKENS;
+                parts += 1;
+                used += BOX_STEPS;
+            }
+            LineKind::Asks(query) => {
+                let question = question_of(query, text, line, &names[0..parts], spots);
+                put_question(question, count, asked);
+                at += query_tokens(query);
+                count += 1;
+            }
         }
     }
     Counts { used, asked: count }

@@ -31,7 +31,7 @@ pub fn read(
     asked: &mut [u64],
 ) -> Result<Counts, Refusal>
     requires work { ⌜ 2 * length (now text) + 15 ≤ length (now stack) ⌝ ∗ ⌜ length (now text) ≤ length (now tokens) ⌝ ∗ ⌜ length (now text) ≤ length (now names) ⌝ ∗ ⌜ length (now text) ≤ length (now spots) ⌝ }
-    requires room { ⌜ 2 * length (now text) ≤ length (now steps) ⌝ ∗ ⌜ length (now text) ≤ length (now asked) ⌝ }
+    requires room { ⌜ 2 * length (now text) ≤ length (now steps) ⌝ ∗ ⌜ 4 * length (now text) ≤ length (now asked) ⌝ }
     ensures { λ r. ⌜ Read r (now (text .entry)) (now (steps .exit)) (now (asked .exit)) ⌝ }
 {
     let found = match examine(text, stack, tokens, names) {

@@ -24,7 +24,7 @@ use grammar::types::Kind;
 const MOST_PARTS: usize = 100;
 
 /// Whether two words are the same.
-fn same_word(a: &[u8], b: &[u8]) -> bool
+pub(crate) fn same_word(a: &[u8], b: &[u8]) -> bool
     ensures { λ r. ⌜ r ≡ same (now (a .entry)) (now (b .entry)) ⌝ }
 {
     a == b

@@ -88,3 +88,19 @@ pub struct Found {
     pub words: usize,
     pub parts: usize,
 }
+
+/// What a question asks: where a place is, whether two parts are the same or meet, or for the model of a part.
+#[derive(Clone, Copy)]
+pub enum Query {
+    Place,
+    Same,
+    Meet,
+    Model,
+}
+
+/// What a line is.
+#[derive(Clone, Copy)]
+pub enum LineKind {
+    Part,
+    Asks(Query),
+}
