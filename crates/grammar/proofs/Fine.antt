@@ -16,7 +16,7 @@ use Rattle.std.proofs.shelf.Tests.{both-ways, and-from, and-right, cond-true}
 use Rattle.grammar.specs.Grammar.{Expr, half, box, two, move, one, called, Two, both, either, without, One, mirror, swap, turn, Name, Line, part, place, same-as, meet, model, same, oneOf, isName, print, signed, decimal, Text}
 use Rattle.grammar.specs.Tokens.{inTok, tokAt, startsFrom, codeE, codeOf}
 use Rattle.grammar.specs.Values.{readOn, number-limit, scale-most}
-use Rattle.grammar.specs.Faults.{Fault, fault, Token, token, tokens, Role, new-name, used-name, shape, measure, scale, unread, of-box, behind-line, behind-shape, scan, if-so, looked, word-faults, amount, negative, beyond, no-scale, most-parts}
+use Rattle.grammar.specs.Faults.{Fault, fault, Token, token, tokens, Role, new-name, used-name, shape, measure, scale, unread, of-box, behind-line, behind-shape, wrong-line, line-fault, scan, if-so, looked, word-faults, amount, negative, beyond, no-scale, most-parts}
 use Rattle.grammar.specs.Meaning.{short, scales, fine, fine-shape}
 use Rattle.grammar.proofs.First.{all-inside}
 use Rattle.grammar.proofs.Tokens.{text-code, placed}
@@ -27,7 +27,7 @@ use Rattle.grammar.proofs.Values.{read-digits}
 -- no fault in words, wherever they stand
 abbrev pub clean : List (List ℕ) → List Role → List (List ℕ) → Bool
 clean names rs [] = true
-clean names [] (w ∷ ws) = not (same w (codes "part") && leb most-parts (length names)) && clean names (behind-line w) ws
+clean names [] (w ∷ ws) = not (wrong-line names w) && clean names (behind-line w) ws
 clean names (new-name ∷ rs) (w ∷ ws) = not (isName w && oneOf names w) && clean (names ++ w ∷ []) rs ws
 clean names (used-name ∷ rs) (w ∷ ws) = not (isName w && not (oneOf names w)) && clean names rs ws
 clean names (shape ∷ rs) (w ∷ ws) = not (not (same w (codes "box"))) && clean names (behind-shape w rs) ws
@@ -52,8 +52,8 @@ pub none-clean : (names : List (List ℕ)) (rs : List Role) (ts : List Token) �
 none-clean names [] [] = refl
 none-clean names (r ∷ rs) [] = refl
 none-clean names [] (t ∷ ts) =
-    none-so (same (t .word) (codes "part") && leb most-parts (length names)) 3 t (scan names (behind-line (t .word)) ts)
-    ∙ ap (λ (x : Bool). not (same (t .word) (codes "part") && leb most-parts (length names)) && x) (none-clean names (behind-line (t .word)) ts)
+    none-so (wrong-line names (t .word)) (line-fault (t .word)) t (scan names (behind-line (t .word)) ts)
+    ∙ ap (λ (x : Bool). not (wrong-line names (t .word)) && x) (none-clean names (behind-line (t .word)) ts)
 none-clean names (new-name ∷ rs) (t ∷ ts) =
     none-so (isName (t .word) && oneOf names (t .word)) 2 t (scan (names ++ t .word ∷ []) rs ts) ∙ ap (λ (x : Bool). not (isName (t .word) && oneOf names (t .word)) && x) (none-clean (names ++ t .word ∷ []) rs ts)
 none-clean names (used-name ∷ rs) (t ∷ ts) =
@@ -177,10 +177,10 @@ clean-shape names (one turn e) ws t h = refl
 clean-shape names (called n) ws t h =
     ap (λ (x : Bool). not (not x) && clean names (cond x of-box (unread ∷ [])) ws) (no-box n)
 
-few : (names : List (List ℕ)) → not (leb most-parts (length names)) ≡ ltb (length names) most-parts
+few : (names : List (List ℕ)) → not (leb most-parts (length names) || false) ≡ ltb (length names) most-parts
 few names = go (leb most-parts (length names)) refl
   where
-    go : (b : Bool) → leb most-parts (length names) ≡ b → not b ≡ ltb (length names) most-parts
+    go : (b : Bool) → leb most-parts (length names) ≡ b → not (b || false) ≡ ltb (length names) most-parts
     go true e = sym (grind (arith, ltb-true, ltb-false))
     go false e = sym (grind (arith, ltb-true, ltb-false))
 
@@ -194,7 +194,7 @@ clean-fine names (place n x y z w ∷ ls) =
     (ap₂ (λ a b. a && b) (not-beyond x) (ap₂ (λ a b. a && b) (not-beyond y) (ap₂ (λ a b. a && b) (not-beyond z) (ap₂ (λ a b. a && b) (not-no-scale w) (clean-fine names ls)))))
 clean-fine names (same-as n m ∷ ls) = ap₂ (λ a b. a && b) (known-one names n) (ap₂ (λ a b. a && b) (known-one names m) (clean-fine names ls))
 clean-fine names (meet n m ∷ ls) = ap₂ (λ a b. a && b) (known-one names n) (ap₂ (λ a b. a && b) (known-one names m) (clean-fine names ls))
-clean-fine names (model n ∷ ls) = ap₂ (λ a b. a && b) (known-one names n) (clean-fine names ls)
+clean-fine names (model n ∷ ls) = refl
 
 -- every word of whole bytes is read to its end
 tok-short : (xs : List ℕ) → length (tokAt xs) ≤ length xs

@@ -16,7 +16,7 @@ use Rattle.std.proofs.shelf.Lists.{take-all, take-take}
 use Rattle.grammar.specs.Grammar.{same, oneOf, isName, Text, Viable, Refused}
 use Rattle.grammar.specs.Laws.{One-place, Not-both}
 use Rattle.grammar.specs.Tokens.{inTok, tokAt, startsFrom, once-if}
-use Rattle.grammar.specs.Faults.{Fault, fault, Token, token, tokens, Role, new-name, used-name, shape, measure, scale, unread, behind-line, behind-shape, scan, if-so, looked, word-faults, beyond, no-scale, most-parts, most-bytes, Reaches, seen, Faulty, stuck, long, wrong, Before, First-fault}
+use Rattle.grammar.specs.Faults.{Fault, fault, Token, token, tokens, Role, new-name, used-name, shape, measure, scale, unread, behind-line, behind-shape, wrong-line, line-fault, scan, if-so, looked, word-faults, beyond, no-scale, most-parts, most-bytes, Reaches, seen, Faulty, stuck, long, wrong, Before, First-fault}
 use Rattle.grammar.proofs.Spacing.{Ascends, ascends-all, word-faults-ascend}
 use Rattle.grammar.proofs.Laws.{one-place, not-both, shorter}
 
@@ -47,7 +47,7 @@ module _ (P : ℕ → Type 0) where
   scan-places names [] [] s = tt
   scan-places names (r ∷ rs) [] s = tt
   scan-places names [] (t ∷ ts) s =
-      so-place (same (t .word) (codes "part") && leb most-parts (length names)) 3 t (scan names (behind-line (t .word)) ts) (s .0) (scan-places names (behind-line (t .word)) ts (s .1))
+      so-place (wrong-line names (t .word)) (line-fault (t .word)) t (scan names (behind-line (t .word)) ts) (s .0) (scan-places names (behind-line (t .word)) ts (s .1))
   scan-places names (new-name ∷ rs) (t ∷ ts) s =
       so-place (isName (t .word) && oneOf names (t .word)) 2 t (scan (names ++ t .word ∷ []) rs ts) (s .0) (scan-places (names ++ t .word ∷ []) rs ts (s .1))
   scan-places names (used-name ∷ rs) (t ∷ ts) s = so-place (isName (t .word) && not (oneOf names (t .word))) 2 t (scan names rs ts) (s .0) (scan-places names rs ts (s .1))

@@ -11,7 +11,7 @@ use Rattle.std.specs.shelf.Lists.{kept-by, All}
 use Rattle.std.proofs.shelf.Tests.{cond-true, cond-false}
 use Rattle.grammar.specs.Grammar.{same, oneOf, isName}
 use Rattle.grammar.specs.Tokens.{inTok, tokAt, startsFrom, once-if}
-use Rattle.grammar.specs.Faults.{Fault, fault, Token, token, tokens, Role, new-name, used-name, shape, measure, scale, unread, behind-line, behind-shape, scan, if-so, looked, word-faults, beyond, no-scale, most-parts}
+use Rattle.grammar.specs.Faults.{Fault, fault, Token, token, tokens, Role, new-name, used-name, shape, measure, scale, unread, behind-line, behind-shape, wrong-line, line-fault, scan, if-so, looked, word-faults, beyond, no-scale, most-parts}
 use Rattle.grammar.proofs.Tokens.{drop-next}
 
 -- each begins at n or behind, and the next behind its end
@@ -101,7 +101,7 @@ pub ascends : (names : List (List ℕ)) (rs : List Role) (n : ℕ) (ts : List To
 ascends names [] n [] s = tt
 ascends names (r ∷ rs) n [] s = tt
 ascends names [] n (t ∷ ts) s =
-    ascends-so n (same (t .word) (codes "part") && leb most-parts (length names)) 3 t (scan names (behind-line (t .word)) ts) (s .0) (ascends names (behind-line (t .word)) _ ts (s .1))
+    ascends-so n (wrong-line names (t .word)) (line-fault (t .word)) t (scan names (behind-line (t .word)) ts) (s .0) (ascends names (behind-line (t .word)) _ ts (s .1))
 ascends names (new-name ∷ rs) n (t ∷ ts) s =
     ascends-so n (isName (t .word) && oneOf names (t .word)) 2 t (scan (names ++ t .word ∷ []) rs ts) (s .0) (ascends (names ++ t .word ∷ []) rs _ ts (s .1))
 ascends names (used-name ∷ rs) n (t ∷ ts) s = ascends-so n (isName (t .word) && not (oneOf names (t .word))) 2 t (scan names rs ts) (s .0) (ascends names rs _ ts (s .1))

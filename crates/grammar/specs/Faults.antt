@@ -51,16 +51,12 @@ of-box = measure ∷ measure ∷ measure ∷ measure ∷ measure ∷ measure ∷
 abbrev pub of-pair : List Role
 of-pair = used-name ∷ used-name ∷ []
 
-abbrev pub of-model : List Role
-of-model = used-name ∷ []
-
 -- what stands behind the word that begins a line
 abbrev pub behind-line : List ℕ → List Role
 behind-line w =
     cond (same w (codes "part")) of-part
     (cond (same w (codes "place")) of-place
-    (cond (same w (codes "same") || same w (codes "meet")) of-pair
-    (cond (same w (codes "model")) of-model (unread ∷ []))))
+    (cond (same w (codes "same") || same w (codes "meet")) of-pair (unread ∷ [])))
 
 -- what stands behind the word that begins a shape, and then what was expected: so far only a box is taken
 abbrev pub behind-shape : List ℕ → List Role → List Role
@@ -87,6 +83,13 @@ no-scale w = negative w || (not (same w (codes "-")) && (eqb (amount w) 0 || ltb
 abbrev pub most-parts : ℕ
 most-parts = 100
 
+-- a line that is not taken: a part too many (3), or, so far, a question for a model (1)
+abbrev pub wrong-line : List (List ℕ) → List ℕ → Bool
+wrong-line names w = (same w (codes "part") && leb most-parts (length names)) || same w (codes "model")
+
+abbrev pub line-fault : List ℕ → ℕ
+line-fault w = cond (same w (codes "model")) 1 3
+
 -- a fault, if there is one
 abbrev pub if-so : Bool → ℕ → Token → List Fault
 if-so true n t = fault n (t .start) ∷ []
@@ -96,7 +99,7 @@ if-so false n t = []
 -- What stands behind a word that is not taken yet is not looked at.
 abbrev pub scan : List (List ℕ) → List Role → List Token → List Fault
 scan names rs [] = []
-scan names [] (t ∷ ts) = if-so (same (t .word) (codes "part") && leb most-parts (length names)) 3 t ++ scan names (behind-line (t .word)) ts
+scan names [] (t ∷ ts) = if-so (wrong-line names (t .word)) (line-fault (t .word)) t ++ scan names (behind-line (t .word)) ts
 scan names (new-name ∷ rs) (t ∷ ts) = if-so (isName (t .word) && oneOf names (t .word)) 2 t ++ scan (names ++ t .word ∷ []) rs ts
 scan names (used-name ∷ rs) (t ∷ ts) = if-so (isName (t .word) && not (oneOf names (t .word))) 2 t ++ scan names rs ts
 scan names (shape ∷ rs) (t ∷ ts) = if-so (not (same (t .word) (codes "box"))) 1 t ++ scan names (behind-shape (t .word) rs) ts

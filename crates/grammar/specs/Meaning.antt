@@ -85,11 +85,11 @@ fine-shape (one o e) = false
 fine-shape (called n) = false
 
 -- lines that are taken, below parts of some names: each name is new where a part has it, and there where it is used, and all numbers are in
--- range
+-- range; so far, no model is asked for
 abbrev pub fine : List (List ℕ) → List Line → Bool
 fine names [] = true
 fine names (part n e ∷ ls) = ltb (length names) most-parts && (not (oneOf names (n .0)) && (fine-shape e && fine (names ++ n .0 ∷ []) ls))
 fine names (place n x y z w ∷ ls) = oneOf names (n .0) && (short x && (short y && (short z && (scales w && fine names ls))))
 fine names (same-as n m ∷ ls) = oneOf names (n .0) && (oneOf names (m .0) && fine names ls)
 fine names (meet n m ∷ ls) = oneOf names (n .0) && (oneOf names (m .0) && fine names ls)
-fine names (model n ∷ ls) = oneOf names (n .0) && fine names ls
+fine names (model n ∷ ls) = false

@@ -63,7 +63,7 @@ of-lines names (place n x y z w ∷ ls) h =
     of-lines names ls (last-of (scales w) _ d)
 of-lines names (same-as n m ∷ ls) h = of-lines names ls (last-of (oneOf names (m .0)) _ (last-of (oneOf names (n .0)) _ h))
 of-lines names (meet n m ∷ ls) h = of-lines names ls (last-of (oneOf names (m .0)) _ (last-of (oneOf names (n .0)) _ h))
-of-lines names (model n ∷ ls) h = of-lines names ls (last-of (oneOf names (n .0)) _ h)
+of-lines names (model n ∷ ls) h = absurd (both-ways false refl h)
 
 pub names-are : (ts : List Token) (ls : List Line) → map (λ t. t .word) ts ≡ codeOf ls → fine [] ls ≡ true → named-in [] ts ≡ part-names ls
 names-are ts ls e f = by-words [] ts ∙ ap (named-words []) e ∙ of-lines [] ls f

@@ -70,7 +70,7 @@ asks-sound ns l q ls (of-place n x y z w) h =
     record { known = (k .0, tt); numbers = and-from (short x) _ (a .0) (and-from (short y) _ (b .0) (and-from (short z) (scales w) (c .0) (d .0))); later = d .1 }
 asks-sound ns l q ls (of-same n m) h = let k = both-known ns (n .0) (m .0) (fine ns ls) h in record { known = k .0; numbers = refl; later = k .1 }
 asks-sound ns l q ls (of-meet n m) h = let k = both-known ns (n .0) (m .0) (fine ns ls) h in record { known = k .0; numbers = refl; later = k .1 }
-asks-sound ns l q ls (of-model n) h = let k = and-parts (oneOf ns (n .0)) (fine ns ls) h in record { known = (k .0, tt); numbers = refl; later = k .1 }
+asks-sound ns l q ls (of-model n) h = absurd (both-ways false refl h)
 
 -- the line that comes next
 pub record First (left : List Line) : Type 0 where

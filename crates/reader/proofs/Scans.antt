@@ -12,7 +12,7 @@ use borrow.Author.Tests.{le-leb}
 use Rattle.std.proofs.shelf.Tests.{cond-true, and-from}
 use Rattle.grammar.specs.Grammar.{same, oneOf, isName}
 use Rattle.reader.specs.Scan.{named-in}
-use Rattle.grammar.specs.Faults.{Fault, fault, Token, Role, new-name, used-name, shape, measure, scale, unread, of-part, of-place, behind-line, behind-shape, scan, if-so, beyond, no-scale, most-parts}
+use Rattle.grammar.specs.Faults.{Fault, fault, Token, Role, new-name, used-name, shape, measure, scale, unread, of-part, of-place, behind-line, behind-shape, wrong-line, line-fault, scan, if-so, beyond, no-scale, most-parts}
 
 -- a fault told, and none
 so-wrong : (b : Bool) (n : ℕ) (t : Token) (r : List Fault) → b ≡ true → if-so b n t ++ r ≡ fault n (t .start) ∷ r
@@ -52,19 +52,11 @@ module _ (names : List (List ℕ)) (t : Token) (ts : List Token) where
   pub used-right : (rs : List Role) → (isName (t .word) && not (oneOf names (t .word))) ≡ false → scan names (used-name ∷ rs) (t ∷ ts) ≡ scan names rs ts
   used-right rs e = so-right (isName (t .word) && not (oneOf names (t .word))) 2 t (scan names rs ts) e
 
-  -- the part that is one too many
-  pub part-wrong : same (t .word) (codes "part") ≡ true → most-parts ≤ length names → scan names [] (t ∷ ts) ≡ fault 3 (t .start) ∷ scan names (behind-line (t .word)) ts
-  part-wrong e f =
-      so-wrong (same (t .word) (codes "part") && leb most-parts (length names)) 3 t (scan names (behind-line (t .word)) ts)
-      (and-from (same (t .word) (codes "part")) (leb most-parts (length names)) e (le-leb _ _ f))
-
-  -- a line that begins rightly
-  pub line-right : (rs : List Role) → (same (t .word) (codes "part") && leb most-parts (length names)) ≡ false → behind-line (t .word) ≡ rs →
-      (scan names [] (t ∷ ts) ≡ scan names rs ts) × (named-in [] (t ∷ ts) ≡ [] ++ named-in rs ts)
-  line-right rs e f = (
-    so-right (same (t .word) (codes "part") && leb most-parts (length names)) 3 t (scan names (behind-line (t .word)) ts) e ∙ ap (λ (qs : List Role). scan names qs ts) f,
-    ap (λ (qs : List Role). named-in qs ts) f,
-  )
+  -- a line that is not taken
+  pub line-wrong : (n : ℕ) → wrong-line names (t .word) ≡ true → line-fault (t .word) ≡ n → scan names [] (t ∷ ts) ≡ fault n (t .start) ∷ scan names (behind-line (t .word)) ts
+  line-wrong n e f =
+      so-wrong (wrong-line names (t .word)) (line-fault (t .word)) t (scan names (behind-line (t .word)) ts) e
+      ∙ ap (λ (k : ℕ). fault k (t .start) ∷ scan names (behind-line (t .word)) ts) f
 
   -- a shape that is not taken yet
   pub shape-wrong : same (t .word) (codes "box") ≡ false → scan names (shape ∷ []) (t ∷ ts) ≡ fault 1 (t .start) ∷ scan names (behind-shape (t .word) []) ts

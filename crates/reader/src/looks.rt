@@ -109,7 +109,7 @@ fn look_line(parts: usize, at: usize, word: &[u8]) -> Look
         return Look::Next(Expect::InNames(2));
     }
     if same_word(word, b"model") {
-        return Look::Next(Expect::InNames(1));
+        return Look::Wrong(Refusal::Grammar(at));
     }
     Look::Next(Expect::Unread)
 }
