@@ -1,22 +1,25 @@
 -- The four corners of a face are right.
+--     Mark, marked                                  which end of a way across an edge's plane is at
+--     corner-at, every                              a place at an end of both ways across is a corner, and the others are none
+--     right-corners                                 the promise
 use mathlib.Core.Path.{_≡_, refl, sym, _∙_, ap, ap₂, subst}
-use mathlib.Core.Bool.{Bool, true, false, cond, _&&_, not}
-use mathlib.Core.List.{List, [], _∷_, map}
+use mathlib.Core.Bool.{Bool, true, false, _&&_, not}
+use mathlib.Core.List.{List}
 use mathlib.Core.Logic.{_⊎_, inl, inr}
 use native.Mathlib.Omega.{arith}
-use Prim.Native.Nat.{ℕ, zero, suc, _+_, _<_, _≤_}
+use Prim.Native.Nat.{ℕ, _<_}
 use lib.ListN.{length, getD, length-map, List·getD-map}
-use lib.IntN.{ℤ, pos, negsuc, negℤ, _+ℤ_, _-ℤ_, _*ℤ_, one, *ℤ-one, negℤ-negℤ}
-use lib.Signed.{ltZ, leZ, _<ℤ_, _≤ℤ_}
+use lib.IntN.{ℤ, pos, negsuc, negℤ, _-ℤ_, _*ℤ_, one, *ℤ-one, negℤ-negℤ}
+use lib.Signed.{ltZ, _<ℤ_, _≤ℤ_}
 use Rattle.std.proofs.shelf.Signed.{ints}
 use Rattle.std.proofs.shelf.Lists.{getD-default}
-use Rattle.std.proofs.shelf.Tests.{and-from, not-true, true≢false}
+use Rattle.std.proofs.shelf.Tests.{and-parts, and-from, not-true, true≢false}
 use Rattle.arith.proofs.Poly.{con, negE, _:*_}
 use Rattle.arith.proofs.Solve.{solve, _:=_, _·_⇒_}
 use Rattle.plane.specs.declared.types.Plane.{Plane}
 use Rattle.plane.specs.declared.types.Place.{Place}
 use Rattle.plane.specs.Limits.{Small-place}
-use Rattle.plane.specs.Planes.{sameZ, height, below, on, Same-place}
+use Rattle.plane.specs.Planes.{sameZ, height, on, Same-place}
 use Rattle.plane.specs.Meets.{determinant}
 use Rattle.solid.specs.Shapes.{Has, At}
 use Rattle.solid.specs.Models.{Face, Corner, Right-corners, none-above, leftward, next}
@@ -25,7 +28,9 @@ use Rattle.solid.proofs.Members.{map-has, has-map}
 use Rattle.faces.specs.declared.types.Block.{Block}
 use Rattle.faces.proofs.Lists.{each-of}
 use Rattle.faces.proofs.Ways.{Way, east, west, north, south, up, down, opp, first, second, toward, normal, far, top, bot, bot-top, far-opp, height-far, rim, rectangle, seen, Made}
-use Rattle.faces.proofs.Sides.{same-yes, same-says, on-far}
+use Rattle.faces.proofs.Sides.{on-far}
+use Rattle.faces.proofs.Integers.{same-yes, same-says}
+use Rattle.faces.proofs.Sixfold.{all-ways-each}
 use Rattle.faces.proofs.Thickness.{Reaches}
 use Rattle.faces.proofs.Turns.{turn, turn-seen, spot, turns-positive}
 
@@ -54,21 +59,11 @@ flat e f g = sameZ (determinant (normal e) (normal f) (normal g)) (pos 0)
 
 crossing-all : (e : Way) → both-ways (λ f g. not (flat e f g)) (first e) (second e) ≡ true
 unfolding determinant sameZ
-crossing-all east = refl
-crossing-all west = refl
-crossing-all north = refl
-crossing-all south = refl
-crossing-all up = refl
-crossing-all down = refl
+crossing-all = all-ways-each (λ e. both-ways (λ f g. not (flat e f g)) (first e) (second e)) refl
 
-flat-all : (e : Way) → (both-ways (flat e) (first e) (first e) ≡ true) × (both-ways (flat e) (second e) (second e) ≡ true)
+flat-all : (e : Way) → (both-ways (flat e) (first e) (first e) && both-ways (flat e) (second e) (second e)) ≡ true
 unfolding determinant sameZ
-flat-all east = (refl, refl)
-flat-all west = (refl, refl)
-flat-all north = (refl, refl)
-flat-all south = (refl, refl)
-flat-all up = (refl, refl)
-flat-all down = (refl, refl)
+flat-all = all-ways-each (λ e. both-ways (flat e) (first e) (first e) && both-ways (flat e) (second e) (second e)) refl
 
 -- ---- a corner
 same-no : (m n : ℤ) → not (sameZ m n) ≡ true → m ≡ n → ⊥
@@ -137,7 +132,7 @@ mark b g false v h = record {
   which = false;
   is = refl;
   far-is = far-neg (far g v) (far (opp g) v) (top b (opp g)) (bot b g) (pos (v .w)) (bot-top b g) (far-opp g v)
-    (same-says (far (opp g) v) (top b (opp g) *ℤ pos (v .w)) (sym (on-far (opp g) (top b (opp g)) v) ∙ h));
+      (same-says (far (opp g) v) (top b (opp g) *ℤ pos (v .w)) (sym (on-far (opp g) (top b (opp g)) v) ∙ h));
 }
 
 marked : (b : Block) (e : Way) (v : Place) (r : Plane) → Has (rim b e) r → on r v ≡ true → Mark b (first e) v r ⊎ Mark b (second e) v r
@@ -235,8 +230,8 @@ module _ (b : Block) (e : Way) (f : Face) (made : Made b e f) where
       let m = marked b e v (c .first) (has (c .first) (c .has-first)) (c .on-first) in
       let n = marked b e v (c .second) (has (c .second) (c .has-second)) (c .on-second) in
       elim m [
-        | inl x ↦ elim n [ inl y ↦ absurd (c .crossing (not-crossing (first e) (flat-all e .0) v _ _ x y)) | inr y ↦ found v _ _ (c .on-plane) x y ]
-        | inr x ↦ elim n [ inl y ↦ found v _ _ (c .on-plane) y x | inr y ↦ absurd (c .crossing (not-crossing (second e) (flat-all e .1) v _ _ x y)) ]
+        | inl x ↦ elim n [ inl y ↦ absurd (c .crossing (not-crossing (first e) (and-parts (both-ways (flat e) (first e) (first e)) _ (flat-all e) .0) v _ _ x y)) | inr y ↦ found v _ _ (c .on-plane) x y ]
+        | inr x ↦ elim n [ inl y ↦ found v _ _ (c .on-plane) y x | inr y ↦ absurd (c .crossing (not-crossing (second e) (and-parts (both-ways (flat e) (first e) (first e)) _ (flat-all e) .1) v _ _ x y)) ]
       ]
 
   -- the corners in their order
@@ -248,9 +243,11 @@ module _ (b : Block) (e : Way) (f : Face) (made : Made b e f) where
 
   in-order : (n : ℕ) (q : Place) → At (f .corners) n q → (n < 4) × (seen e q ≡ place-of n)
   in-order n q k =
-      let h : n < 4 = subst (λ (m : ℕ). n < m) four (k .0) in
-      (h, sym (ap (seen e) (k .1)) ∙ sym (List·getD-map (seen e) (f .corners) n q) ∙ ap (λ (l : List Place). getD l n (seen e q)) (made .corners)
-      ∙ getD-default round n (seen e q) (place-of 0) h)
+      let h : n < 4 = subst (λ (m : ℕ). n < m) four (k .0) in (
+        h,
+        sym (ap (seen e) (k .1)) ∙ sym (List·getD-map (seen e) (f .corners) n q) ∙ ap (λ (l : List Place). getD l n (seen e q)) (made .corners)
+            ∙ getD-default round n (seen e q) (place-of 0) h,
+      )
 
   turning : Reaches b (first e) → Reaches b (second e) → (i k : ℕ) (u v t : Place) → At (f .corners) i u → At (f .corners) (next 4 i) v → At (f .corners) k t →
       (k ≡ i → ⊥) → (k ≡ next 4 i → ⊥) → pos 0 <ℤ leftward (f .plane) u v t
@@ -260,7 +257,7 @@ module _ (b : Block) (e : Way) (f : Face) (made : Made b e f) where
       let r = in-order k t d in
       let s = turns-positive (top b e) (bot b (first e)) (top b (first e)) (bot b (second e)) (top b (second e)) r1 r2 i k (p .0) (r .0) x y in
       let o = ap (λ (z : Plane). leftward z u v t) (made .plane) ∙ turn-seen e (top b e) u v t
-          ∙ ap (λ (z : Place). turn z (seen e v) (seen e t)) (p .1) ∙ ap₂ (λ (z w : Place). turn (place-of i) z w) (q .1) (r .1) in
+      ∙ ap (λ (z : Place). turn z (seen e v) (seen e t)) (p .1) ∙ ap₂ (λ (z w : Place). turn (place-of i) z w) (q .1) (r .1) in
       subst (λ (z : ℤ). pos 0 <ℤ z) (sym o) s
 
   pub right-corners : Reaches b (first e) → Reaches b (second e) → ((v : Place) → Has (f .corners) v → Small-place v) → Right-corners f

@@ -107,7 +107,12 @@ fn turned_places(qs: [Place; 4]) -> [Place; 4]
     ensures { λ r. ⌜ r ≡ map rolled-place qs ⌝ }
 {
     let [i, j, k, l] = qs;
-    [turned_place(i), turned_place(j), turned_place(k), turned_place(l)]
+    [
+        turned_place(i),
+        turned_place(j),
+        turned_place(k),
+        turned_place(l),
+    ]
 }
 
 /// A face turned so.
