@@ -1,22 +1,25 @@
 -- The four corners of a face are right.
+--     Mark, marked                                  which end of a way across an edge's plane is at
+--     corner-at, every                              a place at an end of both ways across is a corner, and the others are none
+--     right-corners                                 the promise
 use mathlib.Core.Path.{_≡_, refl, sym, _∙_, ap, ap₂, subst}
-use mathlib.Core.Bool.{Bool, true, false, cond, _&&_, not}
-use mathlib.Core.List.{List, [], _∷_, map}
+use mathlib.Core.Bool.{Bool, true, false, _&&_, not}
+use mathlib.Core.List.{List}
 use mathlib.Core.Logic.{_⊎_, inl, inr}
 use native.Mathlib.Omega.{arith}
-use Prim.Native.Nat.{ℕ, zero, suc, _+_, _<_, _≤_}
+use Prim.Native.Nat.{ℕ, _<_}
 use lib.ListN.{length, getD, length-map, List·getD-map}
-use lib.IntN.{ℤ, pos, negsuc, negℤ, _+ℤ_, _-ℤ_, _*ℤ_, one, *ℤ-one, negℤ-negℤ}
-use lib.Signed.{ltZ, leZ, _<ℤ_, _≤ℤ_}
+use lib.IntN.{ℤ, pos, negsuc, negℤ, _-ℤ_, _*ℤ_, one, *ℤ-one, negℤ-negℤ}
+use lib.Signed.{ltZ, _<ℤ_, _≤ℤ_}
 use Rattle.std.proofs.shelf.Signed.{ints}
 use Rattle.std.proofs.shelf.Lists.{getD-default}
-use Rattle.std.proofs.shelf.Tests.{and-from, not-true, true≢false}
+use Rattle.std.proofs.shelf.Tests.{and-parts, and-from, not-true, true≢false}
 use Rattle.arith.proofs.Poly.{con, negE, _:*_}
 use Rattle.arith.proofs.Solve.{solve, _:=_, _·_⇒_}
 use Rattle.plane.specs.declared.types.Plane.{Plane}
 use Rattle.plane.specs.declared.types.Place.{Place}
 use Rattle.plane.specs.Limits.{Small-place}
-use Rattle.plane.specs.Planes.{sameZ, height, below, on, Same-place}
+use Rattle.plane.specs.Planes.{sameZ, height, on, Same-place}
 use Rattle.plane.specs.Meets.{determinant}
 use Rattle.solid.specs.Shapes.{Has, At}
 use Rattle.solid.specs.Models.{Face, Corner, Right-corners, none-above, leftward, next}
@@ -25,7 +28,9 @@ use Rattle.solid.proofs.Members.{map-has, has-map}
 use Rattle.faces.specs.declared.types.Block.{Block}
 use Rattle.faces.proofs.Lists.{each-of}
 use Rattle.faces.proofs.Ways.{Way, east, west, north, south, up, down, opp, first, second, toward, normal, far, top, bot, bot-top, far-opp, height-far, rim, rectangle, seen, Made}
-use Rattle.faces.proofs.Sides.{same-yes, same-says, on-far}
+use Rattle.faces.proofs.Sides.{on-far}
+use Rattle.faces.proofs.Integers.{same-yes, same-says}
+use Rattle.faces.proofs.Sixfold.{all-ways-each}
 use Rattle.faces.proofs.Thickness.{Reaches}
 use Rattle.faces.proofs.Turns.{turn, turn-seen, spot, turns-positive}
 
@@ -54,21 +59,11 @@ flat e f g = sameZ (determinant (normal e) (normal f) (normal g)) (pos 0)
 
 crossing-all : (e : Way) → both-ways (λ f g. not (flat e f g)) (first e) (second e) ≡ true
 unfolding determinant sameZ
-crossing-all east = refl
-crossing-all west = refl
-crossing-all north = refl
-crossing-all south = refl
-crossing-all up = refl
-crossing-all down = refl
+crossing-all = all-ways-each (λ e. both-ways (λ f g. not (flat e f g)) (first e) (second e)) refl
 
-flat-all : (e : Way) → (both-ways (flat e) (first e) (first e) ≡ true) × (both-ways (flat e) (second e) (second e) ≡ true)
+flat-all : (e : Way) → (both-ways (flat e) (first e) (first e) && both-ways (flat e) (second e) (second e)) ≡ true
 unfolding determinant sameZ
-flat-all east = (refl, refl)
-flat-all west = (refl, refl)
-flat-all north = (refl, refl)
-flat-all south = (refl, refl)
-flat-all up = (refl, refl)
-flat-all down = (refl, refl)
+flat-all = all-ways-each (λ e. both-ways (flat e) (first e) (first e) && both-ways (flat e) (second e) (second e)) refl
 
 -- ---- a corner
 same-no : (m n : ℤ) → not (sameZ m n) ≡ true → m ≡ n → ⊥
@@ -235,8 +230,8 @@ module _ (b : Block) (e : Way) (f : Face) (made : Made b e f) where
       let m = marked b e v (c .first) (has (c .first) (c .has-first)) (c .on-first) in
       let n = marked b e v (c .second) (has (c .second) (c .has-second)) (c .on-second) in
       elim m [
-        | inl x ↦ elim n [ inl y ↦ absurd (c .crossing (not-crossing (first e) (flat-all e .0) v _ _ x y)) | inr y ↦ found v _ _ (c .on-plane) x y ]
-        | inr x ↦ elim n [ inl y ↦ found v _ _ (c .on-plane) y x | inr y ↦ absurd (c .crossing (not-crossing (second e) (flat-all e .1) v _ _ x y)) ]
+        | inl x ↦ elim n [ inl y ↦ absurd (c .crossing (not-crossing (first e) (and-parts (both-ways (flat e) (first e) (first e)) _ (flat-all e) .0) v _ _ x y)) | inr y ↦ found v _ _ (c .on-plane) x y ]
+        | inr x ↦ elim n [ inl y ↦ found v _ _ (c .on-plane) y x | inr y ↦ absurd (c .crossing (not-crossing (second e) (and-parts (both-ways (flat e) (first e) (first e)) _ (flat-all e) .1) v _ _ x y)) ]
       ]
 
   -- the corners in their order

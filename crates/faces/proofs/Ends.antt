@@ -2,14 +2,13 @@
 --     faced                                         a plane of the solid, either way round, looks one of the six ways
 --     in-faces-way                                  a place is in no other face than the one that looks that way
 --     ends-once, ends-none                          the solid ends at a place just if the place is in that face; nowhere, if nothing is left
-use mathlib.Core.Path.{_≡_, refl, sym, _∙_, ap, ap₂, subst}
+use mathlib.Core.Path.{_≡_, sym, _∙_, ap, ap₂}
 use mathlib.Core.Bool.{Bool, true, false, cond, _&&_, not}
-use mathlib.Core.List.{List, [], _∷_, map}
 use mathlib.Core.Logic.{_⊎_, inl, inr}
 use native.Mathlib.Omega.{arith}
-use Prim.Native.Nat.{ℕ, _+_, _<_}
-use lib.IntN.{ℤ, pos, negsuc, negℤ, _*ℤ_, negℤ-negℤ}
-use lib.Signed.{ltZ, leZ, _<ℤ_, _≤ℤ_}
+use Prim.Native.Nat.{_<_}
+use lib.IntN.{ℤ, pos, negℤ, _*ℤ_, negℤ-negℤ}
+use lib.Signed.{ltZ, leZ, _<ℤ_}
 use Rattle.std.specs.Numbers.{minZ}
 use Rattle.std.proofs.shelf.Signed.{ints}
 use Rattle.std.proofs.shelf.Tests.{cases-bool, true≢false, and-parts, and-left}
@@ -17,15 +16,17 @@ use Rattle.plane.specs.declared.types.Plane.{Plane}
 use Rattle.plane.specs.declared.types.Place.{Place}
 use Rattle.plane.specs.Limits.{reach}
 use Rattle.plane.specs.Planes.{sameZ, below, on, turned, along, same-way}
-use Rattle.plane.specs.Moves.{rolled-plane, rolled-place}
+use Rattle.plane.specs.Moves.{rolled-plane}
 use Rattle.plane.proofs.Ranges.{made}
 use Rattle.solid.specs.Shapes.{by, planes, solid, Has, just-below, just-above, ends}
 use Rattle.solid.specs.Models.{in-faces, all-below}
 use Rattle.faces.specs.declared.types.Block.{Block}
 use Rattle.faces.specs.Blocks.{as-shape, cut, thick, block-faces, high-face, low-face, rolled-face}
 use Rattle.faces.proofs.Ways.{Way, east, west, north, south, up, down, opp, first, second, toward, normal, far, top, bot, bot-top, top-cut, turned-toward, rim}
-use Rattle.faces.proofs.Sides.{lt-says, same-says, lt-min, le-min, on-far, on-at, below-same, below-opp, below-across, above-same, above-opp, above-across}
-use Rattle.faces.proofs.Sixfold.{all-ways, across, all-ways-split, across-same, by-solid, has-solid}
+use Rattle.faces.proofs.Sides.{on-far, on-at, below-same, below-opp, below-across, above-same, above-opp, above-across}
+use Rattle.faces.proofs.Integers.{same-says, lt-min, le-min}
+use Rattle.faces.proofs.Sixfold.{across, all-ways-split, across-same, across-each}
+use Rattle.faces.proofs.Walls.{by-solid, has-solid}
 use Rattle.faces.proofs.Thickness.{Reaches, way-thick, squeezed}
 use Rattle.faces.proofs.Pieces.{under, below-both}
 
@@ -98,14 +99,11 @@ module _ (b : Block) (e : Way) (d : ℤ) (q : Place) (real : 0 < q .w) (met : on
       let u = under (cut b) q in
       let i = and-parts _ _ (sym value-below ∙ h) in
       let j = and-parts _ _ (i .1) in
-      let k = and-parts (u (first e)) _ (j .1) in
-      let l = and-parts (u (opp (first e))) _ (k .1) in
-      let m = and-parts (u (second e)) _ (l .1) in
-      let n = and-parts (u (opp (second e))) _ (m .1) in
+      let k = across-each e u (j .1) in
       way-thick (cut b) e
       (own (top (cut b) e) (top (cut b) (opp e)) (bot (cut b) e) (bot-top (cut b) e) (i .0) (j .0))
-      (squeezed (cut b) q real (first e) (k .0) (l .0))
-      (squeezed (cut b) q real (second e) (m .0) (n .0))
+      (squeezed (cut b) q real (first e) (k .0) (k .1))
+      (squeezed (cut b) q real (second e) (k .2) (k .3))
     where
       own : (t s u : ℤ) → u ≡ negℤ s → leZ d t ≡ true → ltZ (negℤ d) s ≡ true → u <ℤ t
       own t s u i h k = grind (arith, ints)

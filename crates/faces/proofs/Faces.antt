@@ -1,14 +1,17 @@
 -- The faces of what of a block lies in the workshop are right, and so is its model.
+--     face-fits                                     the numbers of each face are in range
+--     face-inside, face-clear, face-ours            what is promised of one face
+--     right-model                                   the promise
 use mathlib.Core.Path.{_≡_, refl, sym, _∙_, ap, ap₂, subst}
-use mathlib.Core.Bool.{Bool, true, false, cond, _&&_, _||_}
-use mathlib.Core.List.{List, [], _∷_, map}
+use mathlib.Core.Bool.{Bool, true, false, cond, _||_}
+use mathlib.Core.List.{List, [], _∷_}
 use mathlib.Core.Logic.{_⊎_, inl, inr}
 use native.Mathlib.Omega.{arith}
-use Prim.Native.Nat.{ℕ, _<_}
+use Prim.Native.Nat.{ℕ}
 use lib.IntN.{ℤ, pos, negℤ, _+ℤ_, _*ℤ_}
 use lib.Signed.{_<ℤ_, _≤ℤ_}
 use Rattle.std.proofs.shelf.Signed.{ints}
-use Rattle.std.proofs.shelf.Tests.{and-from, or-cases, or-left, or-right, cases-bool, true≢false}
+use Rattle.std.proofs.shelf.Tests.{and-from, or-cases, or-left, or-right, true≢false}
 use Rattle.std.specs.declared.option.Option.the-variants.{Some, None}
 use Rattle.plane.specs.declared.types.Plane.{Plane}
 use Rattle.plane.specs.declared.types.Place.{Place}
@@ -18,12 +21,14 @@ use Rattle.solid.specs.Shapes.{solid, planes, Has, Clear-but, ends}
 use Rattle.solid.specs.Models.{Face, Right, Right-faces, Right-corners, in-faces, all-below, Ours}
 use Rattle.solid.proofs.Members.{has-none, map-has}
 use Rattle.faces.specs.declared.types.Block.{Block}
-use Rattle.faces.specs.Blocks.{as-shape, cut, thick, left-of, model-of, block-faces, block-piece, rolled-back, Fits-block, Fits-face}
+use Rattle.faces.specs.Blocks.{as-shape, cut, thick, left-of, model-of, block-faces, rolled-back, Fits-block, Fits-face}
 use Rattle.faces.proofs.Lists.{each-of}
-use Rattle.faces.proofs.Ways.{Way, east, west, north, south, up, down, ways, opp, first, second, toward, normal, far, top, bot, bot-top, far-opp, rim, face-at, faces-ways, seen, Made, made}
-use Rattle.faces.proofs.Sides.{lt-says, same-yes, below-far, on-far}
-use Rattle.faces.proofs.Sixfold.{all-ways, all-ways-split, all-ways-each, has-solid, solid-has}
-use Rattle.faces.proofs.Thickness.{Reaches, thick-way, cut-fits, Short-of, below-inside, off-inside}
+use Rattle.faces.proofs.Ways.{Way, east, west, north, south, up, down, ways, opp, first, second, toward, normal, far, top, bot, bot-top, far-opp, face-at, faces-ways, Made, made}
+use Rattle.faces.proofs.Sides.{below-far, on-far}
+use Rattle.faces.proofs.Integers.{lt-says, same-yes}
+use Rattle.faces.proofs.Sixfold.{all-ways-split, all-ways-each, Four, each-across}
+use Rattle.faces.proofs.Walls.{has-solid, solid-has}
+use Rattle.faces.proofs.Thickness.{thick-way, cut-fits, below-inside, off-inside}
 use Rattle.faces.proofs.Ranges.{high-fits, low-fits, back-fits, rolled-face-fits}
 use Rattle.faces.proofs.Pieces.{under, right-piece, right-none}
 use Rattle.faces.proofs.Ends.{faced, in-faces-way, ends-once, ends-none}
@@ -49,12 +54,7 @@ at-end f h t s u i j k l = (omega (arith, ints), omega (arith, ints))
 
 same-self : (e : Way) → same-way (normal e) (normal e) ≡ true
 unfolding same-way sameZ along
-same-self east = refl
-same-self west = refl
-same-self north = refl
-same-self south = refl
-same-self up = refl
-same-self down = refl
+same-self = all-ways-each (λ e. same-way (normal e) (normal e)) refl
 
 module _ (b : Block) (fits : Fits-block b) (e : Way) (f : Face) (m : Made b e f) where
   abbrev q : Place
@@ -74,7 +74,7 @@ module _ (b : Block) (fits : Fits-block b) (e : Way) (f : Face) (m : Made b e f)
       let k = half-ways (far g q) (far (opp g) q) (top b g) (top b (opp g)) (bot b g) (bot-top b g) (far-opp g q) h (thick-way b fits g) in
       (below-inside (top b g) g q (doubled (λ n. far g q <ℤ n) (top b g) (k .0)), below-inside (top b (opp g)) (opp g) q (doubled (λ n. far (opp g) q <ℤ n) (top b (opp g)) (k .1)))
 
-  within : (under b q (first e) ≡ true) × (under b q (opp (first e)) ≡ true) × (under b q (second e) ≡ true) × (under b q (opp (second e)) ≡ true)
+  within : Four e (λ g. under b q g ≡ true)
   within =
       let i = across-both (first e) (ap (λ (p : Place). p .y) (m .place)) in
       let j = across-both (second e) (ap (λ (p : Place). p .z) (m .place)) in
@@ -82,16 +82,17 @@ module _ (b : Block) (fits : Fits-block b) (e : Way) (f : Face) (m : Made b e f)
 
   face-inside : all-below (f .edges) (f .place) ≡ true
   unfolding all-below
-  face-inside = let w = within in subst (λ (ps : List Plane). all-below ps q ≡ true) (sym (m .edges)) (and-from _ _ (w .0) (and-from _ _ (w .1) (and-from _ _ (w .2) (and-from _ _ (w .3) refl))))
+  face-inside = subst (λ (ps : List Plane). all-below ps q ≡ true) (sym (m .edges)) (each-across e (under b q) within)
 
   -- each way, a plane looks as the face does, or the place is below it
   alike-or-below : (g : Way) → (same-way (normal e) (normal g) || under b q g) ≡ true
   alike-or-below =
       let t = λ (g : Way). same-way (normal e) (normal g) || under b q g in
       let o = λ (g : Way) (h : under b q g ≡ true). or-right (same-way (normal e) (normal g)) (under b q g) h in
+      let a = below-inside (top b (opp e)) (opp e) q (doubled (λ n. far (opp e) q <ℤ n) (top b (opp e)) (ahead .1)) in
       let w = within in
-      all-ways-each t (all-ways-split e t ∙ and-from (t e) _ (or-left _ _ (same-self e)) (and-from (t (opp e)) _ (o (opp e) (below-inside (top b (opp e)) (opp e) q (doubled (λ n. far (opp e) q <ℤ n) (top b (opp e)) (ahead .1))))
-      (and-from (t (first e)) _ (o (first e) (w .0)) (and-from (t (opp (first e))) _ (o (opp (first e)) (w .1)) (and-from (t (second e)) _ (o (second e) (w .2)) (and-from (t (opp (second e))) _ (o (opp (second e)) (w .3)) refl))))))
+      all-ways-each t (all-ways-split e t ∙ and-from (t e) _ (or-left _ _ (same-self e)) (and-from (t (opp e)) _ (o (opp e) a)
+      (each-across e t (o (first e) (w .0), o (opp (first e)) (w .1), o (second e) (w .2), o (opp (second e)) (w .3)))))
 
   face-clear : (a : Block) → b ≡ cut a → Clear-but (solid (as-shape a)) (f .plane) (f .place)
   unfolding same-way along

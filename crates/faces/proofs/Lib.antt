@@ -1,8 +1,10 @@
 pub mod Lists
 pub mod Built
+pub mod Integers
 pub mod Ways
-pub mod Sides
 pub mod Sixfold
+pub mod Sides
+pub mod Walls
 pub mod Thickness
 pub mod Ranges
 pub mod Pieces

@@ -1,5 +1,5 @@
 -- What holds of all in a list holds of each.
-use mathlib.Core.Path.{_≡_, subst}
+use mathlib.Core.Path.{subst}
 use mathlib.Core.List.{List, [], _∷_}
 use mathlib.Core.Logic.{inl, inr}
 use Rattle.std.specs.shelf.Lists.{All}

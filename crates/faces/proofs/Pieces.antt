@@ -4,11 +4,11 @@
 --     right-piece, right-none                       the two cases
 use mathlib.Core.Path.{_≡_, refl, sym, _∙_, ap, ap₂, subst}
 use mathlib.Core.Bool.{Bool, true, false, cond, _&&_}
-use mathlib.Core.List.{List, [], _∷_, map}
-use mathlib.Core.Logic.{_⊎_, inl, inr}
+use mathlib.Core.List.{List, [], _∷_}
+use mathlib.Core.Logic.{inl, inr}
 use native.Mathlib.Omega.{arith}
 use native.Mathlib.Nat.{add-zero}
-use Prim.Native.Nat.{ℕ, _+_, _<_}
+use Prim.Native.Nat.{_<_}
 use lib.Dec.{lit<}
 use lib.IntN.{ℤ, pos, negℤ, _+ℤ_, _*ℤ_}
 use lib.Signed.{ltZ, _<ℤ_}
@@ -19,15 +19,17 @@ use Rattle.plane.specs.declared.types.Plane.{Plane}
 use Rattle.plane.specs.declared.types.Place.{Place}
 use Rattle.plane.specs.Limits.{reach, Small-place}
 use Rattle.plane.specs.Planes.{below, on}
-use Rattle.solid.specs.Shapes.{Shape, box, by, holds, planes, solid, Has, Clear}
+use Rattle.solid.specs.Shapes.{box, holds, planes, solid, Has, Clear}
 use Rattle.solid.specs.Models.{Piece, Right-pieces, in-pieces, all-below, Ours}
 use Rattle.solid.proofs.Members.{has-none, map-has}
 use Rattle.faces.specs.declared.types.Block.{Block}
 use Rattle.faces.specs.Blocks.{as-shape, cut, thick, block-piece}
 use Rattle.faces.proofs.Lists.{each-of}
 use Rattle.faces.proofs.Ways.{Way, east, west, north, south, up, down, ways, opp, toward, far, top, bot, top-cut, planes-ways}
-use Rattle.faces.proofs.Sides.{lt-min, lt-scaled, below-far}
-use Rattle.faces.proofs.Sixfold.{all-ways, all-ways-split, all-ways-each, each-all-ways, all-ways-same, by-solid, has-solid, solid-has}
+use Rattle.faces.proofs.Sides.{below-far}
+use Rattle.faces.proofs.Integers.{lt-min, lt-scaled}
+use Rattle.faces.proofs.Sixfold.{all-ways, all-ways-split, all-ways-each, each-all-ways, all-ways-same}
+use Rattle.faces.proofs.Walls.{by-solid, has-solid, solid-has}
 use Rattle.faces.proofs.Thickness.{way-thick, thick-way, cut-fits, squeezed, Short-of, below-inside, off-inside}
 use Rattle.faces.proofs.Ranges.{piece-small}
 

@@ -1,18 +1,17 @@
 -- The numbers of a block's model are in range.
 use mathlib.Core.Path.{_≡_, refl, ap}
-use mathlib.Core.List.{List, map}
-use Prim.Native.Nat.{ℕ, _+_}
+use Prim.Native.Nat.{_+_}
 use native.Mathlib.Omega.{arith}
-use lib.Dec.{lit<, lit≤}
-use lib.IntN.{ℤ, pos, natAbs, _+ℤ_}
+use lib.Dec.{eqb, lit<, lit≤}
+use lib.IntN.{ℤ, natAbs, _+ℤ_}
 use Rattle.std.proofs.shelf.Signed.{ints}
+use Rattle.std.proofs.shelf.Tests.{eqb-true}
 use Rattle.std.specs.shelf.Lists.{All}
 use Rattle.std.proofs.shelf.Elements.{all-map, all-weaker}
 use Rattle.arith.specs.Bounds.{Short}
 use Rattle.arith.proofs.Sized.{is-self, is-add, is-short, short-more, short-neg}
-use Rattle.plane.specs.declared.types.Plane.{Plane}
 use Rattle.plane.specs.declared.types.Place.{Place}
-use Rattle.plane.specs.Limits.{reach, slope-limit, offset-limit, coordinate-limit, Fits-plane, Small-place}
+use Rattle.plane.specs.Limits.{reach, offset-limit, coordinate-limit, Fits-plane, Small-place}
 use Rattle.plane.specs.Moves.{rolled-plane, rolled-place}
 use Rattle.plane.proofs.Ranges.{rolled-fits}
 use Rattle.solid.specs.Shapes.{plane, planes, box}
@@ -21,6 +20,7 @@ use Rattle.solid.specs.Examples.{at}
 use Rattle.faces.specs.declared.types.Block.{Block}
 use Rattle.faces.specs.Blocks.{block-piece, high-face, low-face, rolled-face, rolled-back, Span, Fits-block, Fits-face}
 use Rattle.faces.proofs.Ways.{Way, east, west, north, south, up, down, toward, normal, top}
+use Rattle.faces.proofs.Sixfold.{all-ways-each}
 
 -- ---- numbers
 module _ (m n : ℤ) (s : Span m n) where
@@ -44,12 +44,7 @@ level a b c d h s = record {
 }
 
 unit : (e : Way) → natAbs (normal e .a) + natAbs (normal e .b) + natAbs (normal e .c) ≡ 1
-unit east = refl
-unit west = refl
-unit north = refl
-unit south = refl
-unit up = refl
-unit down = refl
+unit e = eqb-true _ 1 (all-ways-each (λ f. eqb (natAbs (normal f .a) + natAbs (normal f .b) + natAbs (normal f .c)) 1) refl e)
 
 module _ (b : Block) (f : Fits-block b) where
   top-short : (e : Way) → Short (top b e) reach

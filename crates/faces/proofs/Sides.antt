@@ -2,83 +2,22 @@
 --     below-far, on-far                             at any place
 --     below-at, on-at                               at a place that is exactly a ahead
 --     just-below-same, just-below-opp, ..           at a place on the plane that looks a way: planes across that way, the opposite way, ways across
-use mathlib.Core.Path.{_≡_, refl, sym, _∙_, ap, ap₂, subst}
-use mathlib.Core.Bool.{Bool, true, false, cond, _&&_, not}
+use mathlib.Core.Path.{_≡_, refl, sym, _∙_, ap, ap₂}
+use mathlib.Core.Bool.{Bool, true, false, cond}
 use native.Mathlib.Omega.{arith}
-use Prim.Native.Nat.{ℕ, _<_}
-use lib.IntN.{ℤ, pos, negsuc, negℤ, _+ℤ_, _-ℤ_, _*ℤ_, *ℤ-comm}
-use lib.Signed.{ltZ, leZ, _<ℤ_, _≤ℤ_}
-use Rattle.std.specs.Numbers.{minZ}
-use Rattle.std.proofs.shelf.Signed.{ints, clamps, by-ltZ}
-use Rattle.arith.proofs.Order.{mul-lt, mul-le}
+use Prim.Native.Nat.{_<_}
+use lib.IntN.{ℤ, pos, negsuc, negℤ, _*ℤ_}
+use lib.Signed.{ltZ, leZ}
+use Rattle.std.proofs.shelf.Signed.{ints}
 use Rattle.arith.proofs.Ring.{neg-*l}
 use Rattle.plane.specs.declared.types.Plane.{Plane}
 use Rattle.plane.specs.declared.types.Place.{Place}
-use Rattle.plane.specs.Planes.{sameZ, height, below, on, along}
+use Rattle.plane.specs.Planes.{sameZ, below, on, along}
 use Rattle.plane.proofs.Heights.{on-height, height-not-below}
 use Rattle.solid.specs.Shapes.{just-below, just-above}
-use Rattle.faces.proofs.Ways.{Way, east, west, north, south, up, down, opp, toward, normal, far, height-far, far-opp}
-
--- ---- tests of integers
-lt-difference : (a b : ℤ) → ltZ (a -ℤ b) (pos 0) ≡ ltZ a b
-lt-difference a b = grind (arith, ints)
-
-same-difference : (a b : ℤ) → sameZ (a -ℤ b) (pos 0) ≡ sameZ a b
-unfolding sameZ
-same-difference a b = grind (arith, ints)
-
--- a test passes if what it tests is so, and else fails
-le-or : (a b : ℤ) → cond (sameZ a b) true (ltZ a b) ≡ leZ a b
-unfolding sameZ
-le-or a b = grind (arith, ints)
-
-lt-or : (a b : ℤ) → cond (sameZ a b) false (ltZ a b) ≡ ltZ a b
-unfolding sameZ
-lt-or a b = grind (arith, ints)
-
-pub lt-min : (a b c : ℤ) → (ltZ a c && ltZ a b) ≡ ltZ a (minZ b c)
-lt-min a b c = grind (arith, ints, clamps)
-
-pub le-min : (a b c : ℤ) → (leZ a c && leZ a b) ≡ leZ a (minZ b c)
-le-min a b c = grind (arith, ints, clamps)
-
-pub lt-yes : (a b : ℤ) → a <ℤ b → ltZ a b ≡ true
-lt-yes a b h = grind (arith, ints)
-
-pub lt-no : (a b : ℤ) → b ≤ℤ a → ltZ a b ≡ false
-lt-no a b h = grind (arith, ints)
-
-pub lt-says : (a b : ℤ) → ltZ a b ≡ true → a <ℤ b
-lt-says a b h = grind (arith, ints)
-
-pub same-yes : (a b : ℤ) → a ≡ b → sameZ a b ≡ true
-unfolding sameZ
-same-yes a b h = grind (arith, ints)
-
-pub same-says : (a b : ℤ) → sameZ a b ≡ true → a ≡ b
-unfolding sameZ
-same-says a b h = grind (arith, ints)
-
-le-not : (a b : ℤ) → leZ a b ≡ not (ltZ b a)
-le-not a b = grind (arith, ints)
-
--- a positive factor changes none
-module _ (w : ℕ) (real : 0 < w) where
-  w-positive : pos 0 <ℤ pos w
-  w-positive = omega (arith, ints)
-
-  pub lt-scaled : (a b : ℤ) → ltZ (a *ℤ pos w) (b *ℤ pos w) ≡ ltZ a b
-  lt-scaled a b =
-      by-ltZ a b
-      (λ h. lt-yes (a *ℤ pos w) (b *ℤ pos w) (mul-lt a b (pos w) h w-positive) ∙ sym (lt-yes a b h))
-      (λ h. lt-no (a *ℤ pos w) (b *ℤ pos w) (mul-le b a (pos w) h (omega (arith, ints))) ∙ sym (lt-no a b h))
-
-  le-scaled : (a b : ℤ) → leZ (a *ℤ pos w) (b *ℤ pos w) ≡ leZ a b
-  le-scaled a b = le-not (a *ℤ pos w) (b *ℤ pos w) ∙ ap not (lt-scaled b a) ∙ sym (le-not a b)
-
-  same-scaled : (a b : ℤ) → sameZ (a *ℤ pos w) (b *ℤ pos w) ≡ sameZ a b
-  unfolding sameZ
-  same-scaled a b = ap₂ _&&_ (le-scaled a b) (le-scaled b a)
+use Rattle.faces.proofs.Integers.{lt-difference, same-difference, le-or, lt-or, lt-scaled, same-scaled, same-says}
+use Rattle.faces.proofs.Ways.{Way, opp, toward, normal, far, height-far, far-opp}
+use Rattle.faces.proofs.Sixfold.{all-ways-each}
 
 -- ---- at any place
 module _ (e : Way) (d : ℤ) (q : Place) where
@@ -113,22 +52,12 @@ on-not-below : (p : Plane) (q : Place) → on p q ≡ true → below p q ≡ fal
 on-not-below p q h = let z = on-height p q h in height-not-below p q (omega (arith, ints))
 
 along-self : (e : Way) → along (normal e) (normal e) ≡ pos 1
-unfolding along
-along-self east = refl
-along-self west = refl
-along-self north = refl
-along-self south = refl
-along-self up = refl
-along-self down = refl
+unfolding along sameZ
+along-self e = same-says _ _ (all-ways-each (λ f. sameZ (along (normal f) (normal f)) (pos 1)) refl e)
 
 along-opp : (e : Way) → along (normal e) (normal (opp e)) ≡ negsuc 0
-unfolding along
-along-opp east = refl
-along-opp west = refl
-along-opp north = refl
-along-opp south = refl
-along-opp up = refl
-along-opp down = refl
+unfolding along sameZ
+along-opp e = same-says _ _ (all-ways-each (λ f. sameZ (along (normal f) (normal (opp f))) (negsuc 0)) refl e)
 
 -- ---- just below and just above a place on the plane that looks a way
 module _ (e : Way) (d : ℤ) (q : Place) (real : 0 < q .w) (exact : far e q ≡ d *ℤ pos (q .w)) where

@@ -3,10 +3,10 @@
 --     cut-fits, left-fits                           what is left in the workshop is in range
 --     squeezed                                      a place between two planes across a way
 --     below-inside, off-inside                      a place that is less far than the block reaches
-use mathlib.Core.Path.{_≡_, refl, sym, _∙_, ap, subst}
-use mathlib.Core.Bool.{Bool, true, false, cond, _&&_}
+use mathlib.Core.Path.{_≡_, refl, sym, _∙_, ap}
+use mathlib.Core.Bool.{Bool, true, false, cond}
 use native.Mathlib.Omega.{arith}
-use Prim.Native.Nat.{ℕ, _<_}
+use Prim.Native.Nat.{_<_}
 use lib.IntN.{ℤ, pos, negℤ, _*ℤ_}
 use lib.Signed.{ltZ, _<ℤ_, _≤ℤ_}
 use Rattle.std.specs.Options.{Cases}
@@ -16,12 +16,12 @@ use Rattle.std.proofs.shelf.Tests.{and-parts, and-from}
 use Rattle.arith.proofs.Order.{mul-le}
 use Rattle.arith.proofs.Ring.{neg-*l}
 use Rattle.plane.specs.declared.types.Place.{Place}
-use Rattle.plane.specs.Limits.{reach}
 use Rattle.plane.specs.Planes.{sameZ, below, on}
 use Rattle.faces.specs.declared.types.Block.{Block}
 use Rattle.faces.specs.Blocks.{low-end, high-end, cut, thick, left-of, Span, Fits-block}
 use Rattle.faces.proofs.Ways.{Way, east, west, north, south, up, down, opp, first, second, toward, far, top, bot, bot-top, far-opp}
-use Rattle.faces.proofs.Sides.{lt-yes, lt-says, lt-scaled, below-far, on-far}
+use Rattle.faces.proofs.Sides.{below-far, on-far}
+use Rattle.faces.proofs.Integers.{lt-yes, lt-says, lt-scaled}
 
 flip : (m n : ℤ) → negℤ n <ℤ negℤ m → m <ℤ n
 flip m n h = omega (arith, ints)

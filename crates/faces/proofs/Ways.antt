@@ -1,23 +1,20 @@
 -- The six ways along the axes. A block reaches from `bot` to `top` each way, and each face looks one way.
-use mathlib.Core.Path.{_≡_, refl, sym, _∙_, ap}
-use mathlib.Core.Bool.{Bool, true, false, cond, _&&_}
+use mathlib.Core.Path.{_≡_, refl, ap}
 use mathlib.Core.List.{List, [], _∷_, map}
 use native.Mathlib.Omega.{arith}
-use Prim.Native.Nat.{ℕ, _<_}
 use lib.IntN.{ℤ, pos, negsuc, negℤ, _+ℤ_, _-ℤ_, _*ℤ_}
-use lib.Signed.{ltZ, leZ, _<ℤ_, _≤ℤ_}
 use Rattle.std.specs.Numbers.{maxZ, minZ}
 use Rattle.std.proofs.shelf.Signed.{ints, clamps}
 use Rattle.plane.specs.declared.types.Plane.{Plane}
 use Rattle.plane.specs.declared.types.Place.{Place}
 use Rattle.plane.specs.Limits.{reach}
-use Rattle.plane.specs.Planes.{weight, height, turned, along}
+use Rattle.plane.specs.Planes.{weight, height, turned}
 use Rattle.plane.specs.Moves.{rolled-plane, rolled-place}
 use Rattle.solid.specs.Shapes.{box, planes, plane}
-use Rattle.solid.specs.Models.{Piece, Face, Model}
+use Rattle.solid.specs.Models.{Face}
 use Rattle.solid.specs.Examples.{at}
 use Rattle.faces.specs.declared.types.Block.{Block}
-use Rattle.faces.specs.Blocks.{as-shape, cut, high-face, low-face, rolled-face, rolled-back, block-faces, block-piece}
+use Rattle.faces.specs.Blocks.{as-shape, cut, high-face, low-face, rolled-face, rolled-back, block-faces}
 
 -- toward more x and less x, more y and less y, more z and less z
 pub data Way : Type 0 where

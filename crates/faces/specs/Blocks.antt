@@ -1,6 +1,6 @@
 -- Blocks: what of a box lies in the workshop, and the model of that.
 use mathlib.Core.Bool.{Bool, cond, _&&_}
-use mathlib.Core.List.{List, [], _∷_, _++_, map}
+use mathlib.Core.List.{List, [], _∷_, map}
 use lib.IntN.{ℤ, pos, negℤ, _+ℤ_}
 use lib.Signed.{ltZ, _≤ℤ_, _<ℤ_}
 use Rattle.std.specs.Numbers.{maxZ, minZ}
@@ -19,10 +19,11 @@ use Rattle.faces.specs.declared.types.Rectangle.{Rectangle}
 abbrev pub block : ℤ → ℤ → ℤ → ℤ → ℤ → ℤ → Block
 block x0 x1 y0 y1 z0 z1 = record { x0 = x0; x1 = x1; y0 = y0; y1 = y1; z0 = z0; z1 = z1 }
 
+-- the places in a block
 abbrev pub as-shape : Block → Shape
 as-shape b = box (b .x0) (b .x1) (b .y0) (b .y1) (b .z0) (b .z1)
 
--- what of it lies in the workshop, which may be nothing
+-- what of it lies in the workshop: each end comes no further than the workshop's
 abbrev pub low-end : ℤ → ℤ
 low-end n = maxZ n (negℤ (pos reach))
 
@@ -36,6 +37,7 @@ cut b = block (low-end (b .x0)) (high-end (b .x1)) (low-end (b .y0)) (high-end (
 unfoldable pub thick : Block → Bool
 thick b = ltZ (b .x0) (b .x1) && (ltZ (b .y0) (b .y1) && ltZ (b .z0) (b .z1))
 
+-- the same, and none if there are no places in it
 unfoldable pub left-of : Block → Option Block
 left-of b = cond (thick (cut b)) (Some (cut b)) None
 
@@ -81,11 +83,12 @@ block-faces b =
     let d = rolled-back c in
     high-face b ∷ low-face b ∷ rolled-face (high-face c) ∷ rolled-face (low-face c) ∷ rolled-face (rolled-face (high-face d)) ∷ rolled-face (rolled-face (low-face d)) ∷ []
 
+-- a block's model; without a block it is empty
 unfoldable pub model-of : Option Block → Model
 model-of None = record { pieces = []; faces = [] }
 model-of (Some b) = record { pieces = block-piece b ∷ []; faces = block-faces b }
 
--- the model of what of a box lies in the workshop
+-- the model of a box: of what of it lies in the workshop
 abbrev pub box-model : ℤ → ℤ → ℤ → ℤ → ℤ → ℤ → Model
 box-model x0 x1 y0 y1 z0 z1 = model-of (left-of (block x0 x1 y0 y1 z0 z1))
 
@@ -108,5 +111,6 @@ pub record Fits-face (f : Face) : Type 0 where
   pub place : Small-place (f .place)
   pub corners : All Small-place (f .corners)
 
+-- a face as the code has it
 abbrev pub as-face : Rectangle → Face
 as-face r = record { plane = r .plane; edges = r .edges; place = r .place; corners = r .corners }

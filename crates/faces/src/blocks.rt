@@ -6,7 +6,7 @@ ghost use Rattle.std.specs.Options.{Cases};
 ghost use Rattle.plane.specs.Limits.{Fits-plane, Small-place};
 ghost use Rattle.solid.specs.Shapes.{box, solid};
 ghost use Rattle.solid.specs.Models.{Right};
-ghost use Rattle.faces.specs.Blocks.{block, cut, thick, left-of, model-of, block-piece, Fits-block};
+ghost use Rattle.faces.specs.Blocks.{block, cut, thick, left-of, box-model, block-piece, Fits-block};
 use super::types::Block;
 use plane::types::Place;
 use plane::types::Plane;
@@ -44,11 +44,12 @@ fn left_in(b: Block) -> Option<Block>
     if is_thick(c) { Some(c) } else { None }
 }
 
-/// What of a box lies in the workshop; none if nothing does. The model of that is right for the box.
+/// What of a box lies in the workshop; none if nothing does. The model of that, `model-of` the result, is
+/// right for the box.
 pub fn block_of(x0: i64, x1: i64, y0: i64, y1: i64, z0: i64, z1: i64) -> Option<Block>
     ensures value { λ r. ⌜ r ≡ left-of (block x0 x1 y0 y1 z0 z1) ⌝ }
     ensures fits { λ r. ⌜ Cases r (Unit {0}) Fits-block ⌝ }
-    ensures right { λ r. ⌜ Right (solid (box x0 x1 y0 y1 z0 z1)) (model-of r) ⌝ }
+    ensures right { λ _. ⌜ Right (solid (box x0 x1 y0 y1 z0 z1)) (box-model x0 x1 y0 y1 z0 z1) ⌝ }
 {
     left_in(Block {
         x0,

@@ -3,10 +3,8 @@ use native.Mathlib.Omega.{arith}
 use Rattle.std.specs.Options.{Cases}
 use Rattle.std.specs.declared.option.Option.{Option}
 use Rattle.std.proofs.shelf.Signed.{ints}
-use Rattle.solid.specs.Shapes.{solid}
-use Rattle.solid.specs.Models.{Right}
 use Rattle.faces.specs.declared.types.Block.{Block}
-use Rattle.faces.specs.Blocks.{block, as-shape, left-of, model-of, Fits-block}
+use Rattle.faces.specs.Blocks.{block, left-of, Fits-block}
 use Rattle.faces.proofs.Built.{six}
 use Rattle.faces.proofs.Thickness.{left-fits}
 use Rattle.faces.proofs.Faces.{right-model}
@@ -20,5 +18,5 @@ returns c =
     record {
       value = e;
       fits = subst (λ (r : Option Block). Cases r (Unit {0}) Fits-block) (sym e) (left-fits b);
-      right = subst (λ (r : Option Block). Right (solid (as-shape b)) (model-of r)) (sym e) (right-model b);
+      right = right-model b;
     }

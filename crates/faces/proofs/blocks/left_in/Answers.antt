@@ -1,8 +1,8 @@
-use mathlib.Core.Path.{_≡_, sym, _∙_, ap, ap₂}
-use mathlib.Core.Bool.{Bool, true, false, cond}
+use mathlib.Core.Path.{_∙_, ap, ap₂}
+use mathlib.Core.Bool.{Bool, cond}
 use Rattle.std.specs.declared.option.Option.the-variants.{Some, None}
 use Rattle.faces.specs.declared.types.Block.{Block}
-use Rattle.faces.specs.Blocks.{cut, thick, left-of}
+use Rattle.faces.specs.Blocks.{thick, left-of}
 use Rattle.faces.proofs.blocks.left_in.Needs as need
 
 pub returns-then-is-thick : need.returns-then-is-thick
