@@ -1,5 +1,6 @@
 -- Level planes by their axis.
---     number-some, number-slope, number-is           the number of a plane along an axis
+--     number-some, number-none, number-slope,
+--     number-is, number-only                         the number of a plane along an axis, and its slopes
 --     slope-size, number-short, base-short           how large slopes and numbers are
 --     turned-level                                   a level plane turned round is level
 --     axis-of                                        each level plane has an axis

@@ -4,7 +4,6 @@
 use mathlib.Core.Path.{refl, subst}
 use mathlib.Core.List.{[]}
 use mathlib.Core.Logic.{inl, inr}
-use native.Mathlib.Omega.{arith}
 use lib.IntN.{ℤ}
 use Rattle.plane.specs.declared.types.Plane.{Plane}
 use Rattle.solid.specs.Shapes.{Shape, half, both, planes, box, Has}

@@ -3,8 +3,8 @@
 --     stands-fair, stand-in                          a place that stands is such a place, and each such place has one that stands for it
 --     found-at                                       what is found among those that stand, said of all
 use mathlib.Core.Path.{_≡_, refl, sym, _∙_, ap, subst}
-use mathlib.Core.Bool.{Bool, true, false}
-use mathlib.Core.List.{List, [], _∷_}
+use mathlib.Core.Bool.{Bool, true}
+use mathlib.Core.List.{List, []}
 use mathlib.Core.Logic.{_⊎_, inl, inr}
 use Prim.Native.Nat.{ℕ, _<_}
 use native.Mathlib.Omega.{arith}
@@ -13,21 +13,20 @@ use lib.Signed.{_<ℤ_, <ℤ-irrefl}
 use Rattle.std.specs.declared.option.Option.{Option}
 use Rattle.std.specs.declared.option.Option.the-variants.{Some, None}
 use Rattle.std.proofs.shelf.Signed.{ints}
-use Rattle.std.proofs.shelf.Tests.{cases-bool}
+use Rattle.std.proofs.shelf.Tests.{both-ways, cases-bool}
 use Rattle.arith.proofs.Order.{times, sgn, sgn-mul, sgn-scaled}
 use Rattle.arith.proofs.Poly.{con, _:-_, _:*_}
 use Rattle.arith.proofs.Solve.{solve, _:=_, _⟹_}
 use Rattle.plane.specs.declared.types.Plane.{Plane}
 use Rattle.plane.specs.declared.types.Place.{Place}
-use Rattle.plane.specs.Limits.{Fits-plane}
-use Rattle.plane.specs.Planes.{height, on, along, turned, same-way}
+use Rattle.plane.specs.Planes.{on, along, turned, same-way}
 use Rattle.plane.proofs.Heights.{same-side}
 use Rattle.solid.specs.Shapes.{Has}
 use Rattle.solid.proofs.Members.{has-none, has-here, has-either}
 use Rattle.search.specs.declared.levels.Axis.{Axis}
 use Rattle.search.specs.declared.levels.Axis.the-variants.{X, Y, Z}
 use Rattle.search.specs.Search.{Agree, Off, Off-but, Off-at, By-sides, By-sides-on, By-sides-at, Found}
-use Rattle.search.specs.Levels.{Level, Base-level, All-level, slope-along, coordinate, number-along, base-along, middles, spots-by, spots, halved, Listed, Standing}
+use Rattle.search.specs.Levels.{Level, Base-level, All-level, slope-along, coordinate, number-along, base-along, middles, spots-by, spots, halved, Standing}
 use Rattle.search.proofs.Axes.{axis-of, rise, height-along, on-rise, rise-on, number-none, Only, number-only, only-turned, along-only, ways, same-way-along}
 use Rattle.search.proofs.Middles.{Between, Chosen, odd, choose}
 
@@ -42,10 +41,7 @@ Fair o ps q = (x : Axis) → Fair-by (base-along x o) x ps q
 -- ---- off the planes
 module _ (ps : List Plane) (a : All-level ps) (q : Place) where
   off-fair : Off ps q → Fair None ps q
-  off-fair o x p v h e r = both-ways (o .off p h) (rise-on x p v (a p h .1) e q r)
-    where
-      both-ways : {t : Bool} → t ≡ false → t ≡ true → ⊥
-      both-ways f t = let z : false ≡ true = sym f ∙ t in let o : _≡_ {A = ℕ} 0 1 = cc in omega arith
+  off-fair o x p v h e r = both-ways (on p q) (o .off p h) (rise-on x p v (a p h .1) e q r)
 
   fair-off : 0 < q .w → Fair None ps q → Off ps q
   fair-off w f = record {
@@ -136,12 +132,6 @@ module _ (o : Option Plane) (ps : List Plane) (a : All-level ps) (q : Place) (w 
 
   stand : Place
   stand = halved (pick X .0) (pick Y .0) (pick Z .0)
-
-  stand-along : (x : Axis) → coordinate x stand ≡ pick x .0
-  unfolding stand
-  stand-along X = refl
-  stand-along Y = refl
-  stand-along Z = refl
 
   stands : Standing o ps stand
   unfolding stand

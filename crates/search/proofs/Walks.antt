@@ -1,9 +1,8 @@
 -- Places whose doubled coordinates stand in three lists.
-use mathlib.Core.Path.{_≡_, refl, sym, _∙_, ap, subst}
-use mathlib.Core.Bool.{Bool, true, false}
-use mathlib.Core.List.{List, map}
+use mathlib.Core.Path.{_≡_, refl, sym, _∙_, ap}
+use mathlib.Core.Bool.{Bool, false}
+use mathlib.Core.List.{List}
 use Prim.Native.Nat.{ℕ, _<_}
-use native.Mathlib.Omega.{arith}
 use lib.IntN.{ℤ}
 use lib.ListN.{length, getD}
 use mir.Syntax.{w64}
@@ -11,7 +10,7 @@ use mir.Val.{toZ}
 use Rattle.std.proofs.shelf.Lists.{getD-default}
 use Rattle.arith.specs.Bounds.{Short}
 use Rattle.plane.specs.declared.types.Place.{Place}
-use Rattle.solid.specs.Shapes.{At, Has}
+use Rattle.solid.specs.Shapes.{Has}
 use Rattle.solid.proofs.Members.{has-read, has-map, map-has}
 use Rattle.search.specs.Levels.{numbers, halved, spot-limit, All-short, Listed}
 

@@ -29,7 +29,8 @@ pub trait Question {
 }
 
 /// A place on none of the planes for which the question holds, if there is one. The question depends on nothing
-/// but the sides of the planes; `lent` has three words for each plane and three more, and `work` what the question wants.
+/// but the sides of the planes. `lent` has room for three words for each plane and three more, `work` for what the
+/// question wants.
 pub fn find<Q: Question>(
     question: &Q,
     planes: &[Plane],

@@ -1,14 +1,12 @@
-use mathlib.Core.Path.{_≡_, sym, ap, _∙_, subst}
-use mathlib.Core.Bool.{false}
-use Prim.Native.Nat.{ℕ, _<_}
+use mathlib.Core.Path.{sym, ap, _∙_, subst}
+use Prim.Native.Nat.{ℕ}
 use native.Mathlib.Omega.{arith}
 use borrow.Author.Count.{below-more}
-use lib.ListN.{length}
 use Rattle.std.specs.declared.option.Option.{Option}
 use Rattle.plane.specs.declared.types.Place.{Place}
 use Rattle.search.specs.Search.{Found}
 use Rattle.search.specs.Levels.{numbers, Listed}
-use Rattle.search.proofs.Walks.{spot, short-at, spot-listed, listed-none}
+use Rattle.search.proofs.Walks.{short-at, spot-listed, listed-none}
 use Rattle.search.proofs.levels.first_of.Needs as need
 
 pub place-of-q-requires : need.place-of-q-requires

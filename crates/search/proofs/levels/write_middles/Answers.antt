@@ -1,15 +1,15 @@
 use mathlib.Core.Path.{_≡_, sym, ap, ap₂, _∙_}
-use mathlib.Core.List.{List, [], _∷_, _++_}
-use Prim.Native.Nat.{ℕ, _+_, _≤_, _<_}
+use mathlib.Core.List.{List, [], _∷_}
+use Prim.Native.Nat.{ℕ, _<_}
 use native.Mathlib.Omega.{arith}
 use lib.IntN.{ℤ, pos, _+ℤ_, _*ℤ_}
-use lib.ListN.{length, getD, take, set, length-set}
+use lib.ListN.{length, take, length-set}
 use mir.Syntax.{w64}
 use mir.Val.{toZ}
-use Rattle.std.proofs.shelf.Lists.{take-all, append-nil}
+use Rattle.std.proofs.shelf.Lists.{take-all}
 use Rattle.arith.proofs.Sized.{is-num, is-short}
 use Rattle.solid.proofs.Members.{has-read}
-use Rattle.search.specs.Levels.{numbers, middles, number-along, behind}
+use Rattle.search.specs.Levels.{numbers, middles}
 use Rattle.search.proofs.Axes.{number-short}
 use Rattle.search.proofs.Middles.{numbers-none, one-more, none-more}
 use Rattle.search.proofs.levels.write_middles.Needs as need
