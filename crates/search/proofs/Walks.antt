@@ -1,21 +1,40 @@
 -- Places whose doubled coordinates stand in three lists.
+--     halved-same, halved-small                      a place by its doubled coordinates
+--     spot, short-at, spot-listed                    the place at three numbers of the lists
+--     listed-none                                    what holds for none of these holds for no listed place
 use mathlib.Core.Path.{_≡_, refl, sym, _∙_, ap}
 use mathlib.Core.Bool.{Bool, false}
 use mathlib.Core.List.{List}
 use Prim.Native.Nat.{ℕ, _<_}
+use lib.Dec.{lit<, lit≤}
 use lib.IntN.{ℤ}
 use lib.ListN.{length, getD}
 use mir.Syntax.{w64}
 use mir.Val.{toZ}
 use Rattle.std.proofs.shelf.Lists.{getD-default}
 use Rattle.arith.specs.Bounds.{Short}
+use Rattle.arith.proofs.Sized.{short-more}
 use Rattle.plane.specs.declared.types.Place.{Place}
+use Rattle.plane.specs.Limits.{Small-place, coordinate-limit}
 use Rattle.solid.specs.Shapes.{Has}
 use Rattle.solid.proofs.Members.{has-read, has-map, map-has}
 use Rattle.search.specs.Levels.{numbers, halved, spot-limit, All-short, Listed}
 
 abbrev pub spot : List ℕ → List ℕ → List ℕ → ℕ → ℕ → ℕ → Place
 spot xs ys zs i j k = halved (toZ w64 (getD xs i 0)) (toZ w64 (getD ys j 0)) (toZ w64 (getD zs k 0))
+
+pub halved-same : {x y z i j k : ℤ} → x ≡ i → y ≡ j → z ≡ k → halved x y z ≡ halved i j k
+halved-same {y = y} {z = z} {i = i} {j = j} a b c =
+    ap (λ (n : ℤ). halved n y z) a ∙ ap (λ (n : ℤ). halved i n z) b ∙ ap (λ (n : ℤ). halved i j n) c
+
+pub halved-small : {x y z : ℤ} → Short x spot-limit → Short y spot-limit → Short z spot-limit → Small-place (halved x y z)
+halved-small a b c = record {
+  x = short-more coordinate-limit a tt;
+  y = short-more coordinate-limit b tt;
+  z = short-more coordinate-limit c tt;
+  w = lit≤ tt;
+  real = lit< tt;
+}
 
 has-number : (ws : List ℕ) (i : ℕ) → i < length ws → Has (numbers ws) (toZ w64 (getD ws i 0))
 has-number ws i h = has-map (toZ w64) (getD ws i 0) ws (has-read ws i 0 h)
@@ -39,9 +58,4 @@ listed-none f xs ys zs n q l =
     let a = number-at xs (q .x) (l .x) in
     let b = number-at ys (q .y) (l .y) in
     let c = number-at zs (q .z) (l .z) in
-    ap f (made q (a .2) (b .2) (c .2) (l .w)) ∙ n (a .0) (a .1) (b .0) (b .1) (c .0) (c .1)
-  where
-    made : {x y z : ℤ} (q : Place) → x ≡ q .x → y ≡ q .y → z ≡ q .z → q .w ≡ 2 → q ≡ halved x y z
-    made {x} {y} {z} q a b c d =
-        ap (λ (n : ℕ). record { x = q .x; y = q .y; z = q .z; w = n }) d
-        ∙ ap (λ (n : ℤ). halved n (q .y) (q .z)) (sym a) ∙ ap (λ (n : ℤ). halved x n (q .z)) (sym b) ∙ ap (λ (n : ℤ). halved x y n) (sym c)
+    ap f (ap (λ (n : ℕ). record { x = q .x; y = q .y; z = q .z; w = n }) (l .w) ∙ sym (halved-same (a .2) (b .2) (c .2))) ∙ n (a .0) (a .1) (b .0) (b .1) (c .0) (c .1)
