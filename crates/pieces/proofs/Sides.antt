@@ -1,34 +1,24 @@
 -- What is told of a place depends on nothing but the sides of the planes.
-use mathlib.Core.Path.{_≡_, refl, sym, _∙_, ap, ap₂}
-use mathlib.Core.List.{List, [], _∷_, _++_}
+use mathlib.Core.Path.{_≡_, ap, ap₂}
+use mathlib.Core.List.{_++_}
 use mathlib.Core.Logic.{_⊎_, inl, inr}
-use mathlib.Core.Bool.{Bool, true, false, cond, not, _&&_, _||_}
+use mathlib.Core.Bool.{cond, not, _&&_}
 use Rattle.plane.specs.declared.types.Plane.{Plane}
 use Rattle.plane.specs.declared.types.Place.{Place}
-use Rattle.plane.specs.Planes.{below, on, side}
-use Rattle.plane.proofs.Heights.{by-side}
 use Rattle.solid.specs.declared.types.Told.{Told}
 use Rattle.solid.specs.declared.types.Told.the-variants.{In, Out, On}
-use Rattle.solid.specs.Shapes.{Shape, Has, planes, solid, workshop, holds, by}
-use Rattle.solid.specs.Examples.{told, on-some}
-use Rattle.solid.proofs.Members.{has-here, has-there, has-left, has-right, has-part}
-use Rattle.solid.proofs.Values.{by-same}
+use Rattle.solid.specs.Shapes.{Shape, Has, planes, solid, workshop}
+use Rattle.solid.specs.Examples.{told}
+use Rattle.solid.proofs.Members.{has-left, has-right, has-part}
 use Rattle.search.specs.Search.{Agree}
+use Rattle.search.proofs.Agreeing.{among-self, agree-on-some, agree-holds}
 use Rattle.pieces.specs.Questions.{is-in, inside, in-one, in-two, planes-of-two}
-
-on-agree : (ps : List Plane) (q r : Place) → Agree ps q r → on-some ps q ≡ on-some ps r
-unfolding on-some
-on-agree [] q r a = refl
-on-agree (p ∷ ps) q r a = ap₂ (λ x y. x || y) (by-side p q p r (a p (has-here p ps)) .in-on) (on-agree ps q r (λ s h. a s (has-there p s ps h)))
-
-holds-agree : (s : Shape) (q r : Place) → Agree (planes s) q r → holds s q ≡ holds s r
-unfolding holds
-holds-agree s q r a = by-same (λ p. below p q) (λ p. below p r) s (λ p h. by-side p q p r (a p h) .in-below)
 
 pub told-agree : (s : Shape) (q r : Place) → Agree (planes (solid s)) q r → told s q ≡ told s r
 unfolding told
 told-agree s q r a =
-    ap₂ (λ x y. cond x On (cond y In Out)) (on-agree (planes (solid s)) q r a) (holds-agree (solid s) q r a)
+    let ps = planes (solid s) in
+    ap₂ (λ x y. cond x On (cond y In Out)) (agree-on-some ps q r a ps (among-self ps)) (agree-holds ps q r a (solid s) (among-self ps))
 
 -- so does whether it is in one of two parts only, or in both
 abbrev pub Agree-two : Shape → Shape → Place → Place → Type 0
