@@ -1,6 +1,8 @@
 //! draw FILE, or draw with the text on standard input: tells the answers to the text's questions, a line each,
 //! or `refused N at P`, and then ends with status 1.
 
+#![tactic(auto)]
+
 use modeller::drawing::Drawing;
 use modeller::types::{Refused, Reply};
 use solid::types::Told;

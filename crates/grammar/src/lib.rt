@@ -1,5 +1,7 @@
 //! The language: lines and shapes, their one text as bytes, and which bytes begin a text.
 
+#![tactic(auto)]
+
 ghost use Rattle.std.specs.Prelude.{◌≡◌, true};
 ghost use Rattle.grammar.specs.Laws.{OneList, OnePlace, NotBoth, FineFaultless, OneFault};
 

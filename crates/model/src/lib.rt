@@ -1,5 +1,7 @@
 //! Models as bytes, low byte first: written, read, and measured.
 
+#![tactic(auto)]
+
 pub mod laws;
 pub mod measure;
 pub mod read;

@@ -1,5 +1,7 @@
 //! The modeller's calls: a text is read into lent words, and its questions are answered.
 
+#![tactic(auto)]
+
 ghost use Rattle.std.specs.Prelude.{◌≡◌, ◌+◌, ◌*◌, ◌≤◌, length};
 ghost use Rattle.solid.specs.Examples.{told};
 ghost use Rattle.solid.specs.Shapes.{Shape, Fits};

@@ -1,5 +1,7 @@
 //! Whether two parts are the same solid, and whether they meet.
 
+#![tactic(auto)]
+
 ghost use Rattle.std.specs.Prelude.{◌+◌, ◌*◌, ◌≤◌, length};
 ghost use Rattle.search.specs.Search.{Off, Found};
 ghost use Rattle.solid.specs.Stacks.{shape_of};

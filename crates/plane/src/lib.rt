@@ -1,5 +1,7 @@
 //! Planes and places: sides, meets of three planes, moves, all exact in signed 64 bits.
 
+#![tactic(auto)]
+
 pub mod meets;
 pub mod moves;
 pub mod planes;

@@ -1,5 +1,7 @@
 //! Bytes to steps: reads a text, or says which fault comes first.
 
+#![tactic(auto)]
+
 ghost use Rattle.std.specs.Prelude.{◌+◌, ◌*◌, ◌≤◌, length};
 ghost use Rattle.reader.specs.Reading.{Read};
 
