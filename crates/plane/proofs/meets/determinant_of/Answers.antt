@@ -25,47 +25,47 @@ expansion f g h =
     let k = minor (is_num g.a tt) (is_num h.b tt) (is_num g.b tt) (is_num h.a tt) tt in
     record { i = i; j = j; k = k; all = dot (is_num f.a tt) i.value (is_num f.b tt) j.value (is_num f.c tt) k.value tt }
 
-pub overflow-mul-i : goal.overflow-mul-i
-overflow-mul-i c = (expansion c.requires.p c.requires.q c.requires.r).i.first
+pub overflow_mul-i : goal.overflow_mul-i
+overflow_mul-i c = (expansion c.requires.p c.requires.q c.requires.r).i.first
 
-pub overflow-mul-i-2 : goal.overflow-mul-i-2
-overflow-mul-i-2 c = (expansion c.requires.p c.requires.q c.requires.r).i.second
+pub overflow_mul-i-2 : goal.overflow_mul-i-2
+overflow_mul-i-2 c = (expansion c.requires.p c.requires.q c.requires.r).i.second
 
-pub overflow-sub-i : goal.overflow-sub-i
-overflow-sub-i c = (expansion c.requires.p c.requires.q c.requires.r).i.both
+pub overflow_sub-i : goal.overflow_sub-i
+overflow_sub-i c = (expansion c.requires.p c.requires.q c.requires.r).i.both
 
-pub overflow-mul-j : goal.overflow-mul-j
-overflow-mul-j c = (expansion c.requires.p c.requires.q c.requires.r).j.first
+pub overflow_mul-j : goal.overflow_mul-j
+overflow_mul-j c = (expansion c.requires.p c.requires.q c.requires.r).j.first
 
-pub overflow-mul-j-2 : goal.overflow-mul-j-2
-overflow-mul-j-2 c = (expansion c.requires.p c.requires.q c.requires.r).j.second
+pub overflow_mul-j-2 : goal.overflow_mul-j-2
+overflow_mul-j-2 c = (expansion c.requires.p c.requires.q c.requires.r).j.second
 
-pub overflow-sub-j : goal.overflow-sub-j
-overflow-sub-j c = (expansion c.requires.p c.requires.q c.requires.r).j.both
+pub overflow_sub-j : goal.overflow_sub-j
+overflow_sub-j c = (expansion c.requires.p c.requires.q c.requires.r).j.both
 
-pub overflow-mul-k : goal.overflow-mul-k
-overflow-mul-k c = (expansion c.requires.p c.requires.q c.requires.r).k.first
+pub overflow_mul-k : goal.overflow_mul-k
+overflow_mul-k c = (expansion c.requires.p c.requires.q c.requires.r).k.first
 
-pub overflow-mul-k-2 : goal.overflow-mul-k-2
-overflow-mul-k-2 c = (expansion c.requires.p c.requires.q c.requires.r).k.second
+pub overflow_mul-k-2 : goal.overflow_mul-k-2
+overflow_mul-k-2 c = (expansion c.requires.p c.requires.q c.requires.r).k.second
 
-pub overflow-sub-k : goal.overflow-sub-k
-overflow-sub-k c = (expansion c.requires.p c.requires.q c.requires.r).k.both
+pub overflow_sub-k : goal.overflow_sub-k
+overflow_sub-k c = (expansion c.requires.p c.requires.q c.requires.r).k.both
 
-pub overflow-mul-result : goal.overflow-mul-result
-overflow-mul-result c = (expansion c.requires.p c.requires.q c.requires.r).all.first
+pub overflow_mul-result : goal.overflow_mul-result
+overflow_mul-result c = (expansion c.requires.p c.requires.q c.requires.r).all.first
 
-pub overflow-mul-result-2 : goal.overflow-mul-result-2
-overflow-mul-result-2 c = (expansion c.requires.p c.requires.q c.requires.r).all.second
+pub overflow_mul-result-2 : goal.overflow_mul-result-2
+overflow_mul-result-2 c = (expansion c.requires.p c.requires.q c.requires.r).all.second
 
-pub overflow-add-result : goal.overflow-add-result
-overflow-add-result c = (expansion c.requires.p c.requires.q c.requires.r).all.two
+pub overflow_add-result : goal.overflow_add-result
+overflow_add-result c = (expansion c.requires.p c.requires.q c.requires.r).all.two
 
-pub overflow-mul-result-3 : goal.overflow-mul-result-3
-overflow-mul-result-3 c = (expansion c.requires.p c.requires.q c.requires.r).all.third
+pub overflow_mul-result-3 : goal.overflow_mul-result-3
+overflow_mul-result-3 c = (expansion c.requires.p c.requires.q c.requires.r).all.third
 
-pub overflow-add-result-2 : goal.overflow-add-result-2
-overflow-add-result-2 c = (expansion c.requires.p c.requires.q c.requires.r).all.three
+pub overflow_add-result-2 : goal.overflow_add-result-2
+overflow_add-result-2 c = (expansion c.requires.p c.requires.q c.requires.r).all.three
 
 pub returns : goal.returns
 returns c =

@@ -11,9 +11,9 @@ returns c =
     let p = c.args.p in
     let q = c.args.q in
     let r = c.args.r in
-    let x = (is_back (is_call c.numerator-x.ensures.value c.numerator-x.ensures.short) tt).same in
-    let y = (is_back (is_call c.numerator-y.ensures.value c.numerator-y.ensures.short) tt).same in
-    let z = (is_back (is_call c.numerator-z.ensures.value c.numerator-z.ensures.short) tt).same in
-    let w = (is_back (is_call c.determinant-of.ensures.value c.determinant-of.ensures.short) tt).same in
-    subst (λ (o : Option Place). Met p q r o) (sym (c.place-over.ensures ∙ same_over x y z w))
+    let x = (is_back (is_call c.numerator_x.ensures.value c.numerator_x.ensures.short) tt).same in
+    let y = (is_back (is_call c.numerator_y.ensures.value c.numerator_y.ensures.short) tt).same in
+    let z = (is_back (is_call c.numerator_z.ensures.value c.numerator_z.ensures.short) tt).same in
+    let w = (is_back (is_call c.determinant_of.ensures.value c.determinant_of.ensures.short) tt).same in
+    subst (λ (o : Option Place). Met p q r o) (sym (c.place_over.ensures ∙ same_over x y z w))
     (met p q r c.requires.p c.requires.q c.requires.r (determinant p q r) refl)

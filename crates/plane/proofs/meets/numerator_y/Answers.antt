@@ -7,6 +7,6 @@ use Rattle.plane.proofs.meets.numerator_y.Goals as goal
 pub returns : goal.returns
 unfolding numerator_y
 returns c =
-    let e = c.numerator-z.ensures.value ∙ same_rows numerator_z c.rolled.ensures.value c.rolled-2.ensures.value c.rolled-3.ensures.value in
-    let i = is_back (is_call e c.numerator-z.ensures.short) tt in
+    let e = c.numerator_z.ensures.value ∙ same_rows numerator_z c.rolled.ensures.value c.rolled-2.ensures.value c.rolled-3.ensures.value in
+    let i = is_back (is_call e c.numerator_z.ensures.short) tt in
     record { value = i.same; short = is_short i }

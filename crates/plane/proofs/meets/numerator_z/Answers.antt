@@ -7,6 +7,6 @@ use Rattle.plane.proofs.meets.numerator_z.Goals as goal
 pub returns : goal.returns
 unfolding numerator_z
 returns c =
-    let e = c.numerator-x.ensures.value ∙ same_rows numerator_x c.rolled.ensures.value c.rolled-2.ensures.value c.rolled-3.ensures.value in
-    let i = is_back (is_call e c.numerator-x.ensures.short) tt in
+    let e = c.numerator_x.ensures.value ∙ same_rows numerator_x c.rolled.ensures.value c.rolled-2.ensures.value c.rolled-3.ensures.value in
+    let i = is_back (is_call e c.numerator_x.ensures.short) tt in
     record { value = i.same; short = is_short i }

@@ -4,8 +4,8 @@ use Rattle.plane.proofs.Ranges.{made}
 use Rattle.plane.proofs.Weights.{is_weight}
 use Rattle.plane.proofs.moves.shifted.Goals as goal
 
-pub overflow-add-result : goal.overflow-add-result
-overflow-add-result c = is_fits (is_add (is_num c.requires.plane.d tt) (is_num c.weighed.ensures.short tt)) tt
+pub overflow_add-result : goal.overflow_add-result
+overflow_add-result c = is_fits (is_add (is_num c.requires.plane.d tt) (is_num c.weighed.ensures.short tt)) tt
 
 pub returns : goal.returns
 unfolding moved_plane

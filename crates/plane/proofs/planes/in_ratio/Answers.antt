@@ -8,8 +8,8 @@ pub returns : goal.returns
 returns c =
     let p = c.args.p in
     let r = c.args.r in
-    let k = (is_back (is_call c.along-of.ensures.value c.along-of.ensures.short) tt).same in
-    let l = (is_back (is_call c.along-of-2.ensures.value c.along-of-2.ensures.short) tt).same in
+    let k = (is_back (is_call c.along_of.ensures.value c.along_of.ensures.short) tt).same in
+    let l = (is_back (is_call c.along_of-2.ensures.value c.along_of-2.ensures.short) tt).same in
     let e : c.times.result ≡ multiplied (along p p) r = c.times.ensures ∙ ap (λ (n : ℤ). multiplied n r) k in
     let f : c.times-2.result ≡ multiplied (along p r) p = c.times-2.ensures ∙ ap (λ (n : ℤ). multiplied n p) l in
     (λ t. sym e ∙ c.same.ensures.0 t ∙ f, λ g. c.same.ensures.1 (e ∙ g ∙ sym f))

@@ -3,17 +3,17 @@ use Rattle.plane.specs.Ratios.{multiplied}
 use Rattle.plane.proofs.Ranges.{made}
 use Rattle.plane.proofs.planes.times.Goals as goal
 
-pub overflow-mul-result : goal.overflow-mul-result
-overflow-mul-result c = is_fits (is_mul (is_num c.requires.k tt) (is_num c.requires.p.a tt)) tt
+pub overflow_mul-result : goal.overflow_mul-result
+overflow_mul-result c = is_fits (is_mul (is_num c.requires.k tt) (is_num c.requires.p.a tt)) tt
 
-pub overflow-mul-result-2 : goal.overflow-mul-result-2
-overflow-mul-result-2 c = is_fits (is_mul (is_num c.requires.k tt) (is_num c.requires.p.b tt)) tt
+pub overflow_mul-result-2 : goal.overflow_mul-result-2
+overflow_mul-result-2 c = is_fits (is_mul (is_num c.requires.k tt) (is_num c.requires.p.b tt)) tt
 
-pub overflow-mul-result-3 : goal.overflow-mul-result-3
-overflow-mul-result-3 c = is_fits (is_mul (is_num c.requires.k tt) (is_num c.requires.p.c tt)) tt
+pub overflow_mul-result-3 : goal.overflow_mul-result-3
+overflow_mul-result-3 c = is_fits (is_mul (is_num c.requires.k tt) (is_num c.requires.p.c tt)) tt
 
-pub overflow-mul-result-4 : goal.overflow-mul-result-4
-overflow-mul-result-4 c = is_fits (is_mul (is_num c.requires.k tt) (is_num c.requires.p.d tt)) tt
+pub overflow_mul-result-4 : goal.overflow_mul-result-4
+overflow_mul-result-4 c = is_fits (is_mul (is_num c.requires.k tt) (is_num c.requires.p.d tt)) tt
 
 pub returns : goal.returns
 unfolding multiplied

@@ -3,11 +3,11 @@ use Rattle.plane.specs.Planes.{height}
 use Rattle.plane.proofs.Weights.{is_weight}
 use Rattle.plane.proofs.sides.height_of.Goals as goal
 
-pub overflow-mul-result : goal.overflow-mul-result
-overflow-mul-result c = is_fits (is_mul (is_num c.requires.plane.d tt) (is_low c.requires.place.w tt)) tt
+pub overflow_mul-result : goal.overflow_mul-result
+overflow_mul-result c = is_fits (is_mul (is_num c.requires.plane.d tt) (is_low c.requires.place.w tt)) tt
 
-pub overflow-sub-result : goal.overflow-sub-result
-overflow-sub-result c =
+pub overflow_sub-result : goal.overflow_sub-result
+overflow_sub-result c =
     let dw = is_back (is_mul (is_num c.requires.plane.d tt) (is_low c.requires.place.w tt)) tt in
     is_fits (is_sub (is_num c.weighed.ensures.short tt) dw) tt
 

@@ -11,20 +11,20 @@ sum : {p : Plane} {x y z : ℤ} → FitsPlane p → Short x coordinate_limit →
     Dot (back p.a) (back x) (back p.b) (back y) (back p.c) (back z) (weight p x y z) weight_limit
 sum f x y z = dot (is_num f.a tt) (is_num x tt) (is_num f.b tt) (is_num y tt) (is_num f.c tt) (is_num z tt) tt
 
-pub overflow-mul-result : goal.overflow-mul-result
-overflow-mul-result c = (sum c.requires.p c.requires.x c.requires.y c.requires.z).first
+pub overflow_mul-result : goal.overflow_mul-result
+overflow_mul-result c = (sum c.requires.p c.requires.x c.requires.y c.requires.z).first
 
-pub overflow-mul-result-2 : goal.overflow-mul-result-2
-overflow-mul-result-2 c = (sum c.requires.p c.requires.x c.requires.y c.requires.z).second
+pub overflow_mul-result-2 : goal.overflow_mul-result-2
+overflow_mul-result-2 c = (sum c.requires.p c.requires.x c.requires.y c.requires.z).second
 
-pub overflow-add-result : goal.overflow-add-result
-overflow-add-result c = (sum c.requires.p c.requires.x c.requires.y c.requires.z).two
+pub overflow_add-result : goal.overflow_add-result
+overflow_add-result c = (sum c.requires.p c.requires.x c.requires.y c.requires.z).two
 
-pub overflow-mul-result-3 : goal.overflow-mul-result-3
-overflow-mul-result-3 c = (sum c.requires.p c.requires.x c.requires.y c.requires.z).third
+pub overflow_mul-result-3 : goal.overflow_mul-result-3
+overflow_mul-result-3 c = (sum c.requires.p c.requires.x c.requires.y c.requires.z).third
 
-pub overflow-add-result-2 : goal.overflow-add-result-2
-overflow-add-result-2 c = (sum c.requires.p c.requires.x c.requires.y c.requires.z).three
+pub overflow_add-result-2 : goal.overflow_add-result-2
+overflow_add-result-2 c = (sum c.requires.p c.requires.x c.requires.y c.requires.z).three
 
 pub returns : goal.returns
 returns c =
