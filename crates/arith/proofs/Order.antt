@@ -1,9 +1,9 @@
 -- The order of the integers, with products: what `omega (arith, ints)` does not read.
-use Rattle.std.proofs.Common.{◌≡◌, ℕ, zero, suc, ◌*◌, ◌<◌, ℤ, pos, negsuc, ◌+ℤ◌, ◌-ℤ◌, ◌*ℤ◌, neg_ℤ, ◌≤ℤ◌, ◌<ℤ◌, sym, refl, ap, ◌∙◌, subst, ap₂, mul-pos, arith}
+use Rattle.std.proofs.Common.{◌≡◌, zero, suc, ◌<◌, ℤ, pos, negsuc, ◌+ℤ◌, ◌-ℤ◌, ◌*ℤ◌, neg_ℤ, ◌≤ℤ◌, ◌<ℤ◌, refl, ap, ◌∙◌, subst, mul-pos, arith}
 use lib.IntN.{*ℤ_comm, *ℤ-zero, zero-*ℤ}
 use lib.Signed.{<ℤ_irrefl}
 use Rattle.std.proofs.lemmas.Int.{ints, by_lt_z}
-use Rattle.arith.proofs.Ring.{distr, distl, neg_*l, neg_*r}
+use Rattle.arith.proofs.Ring.{distr, neg_*l, neg_*r}
 
 pub data Tri (a b : ℤ) : Type 0 where
   below : a <ℤ b → Tri a b

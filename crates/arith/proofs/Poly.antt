@@ -2,8 +2,8 @@
 use Rattle.std.proofs.Common.{◌≡◌, ℕ, zero, suc, T, List, [], ◌∷◌, ℤ, pos, negsuc, ◌+ℤ◌, ◌-ℤ◌, ◌*ℤ◌, neg_ℤ, sym, refl, ap, ◌∙◌, subst, ap₂, eqb→eq}
 use Prim.Native.Nat.{compare, Ordering}
 use lib.Dec.{compare_is_eq}
-use lib.IntN.{+ℤ_assoc, +ℤ_comm, +ℤ_idl, +ℤ_idr, +ℤ_invl, +ℤ_invr, zero-*ℤ, *ℤ-zero, *ℤ_comm, neg_ℤ-+ℤ, neg_ℤ-neg_ℤ}
-use Rattle.arith.proofs.Ring.{distr, distl, neg_*l, neg_*r, one_*ℤ, *ℤ_assoc, *ℤ_swap_mid, *ℤ_swap_first, swap_last, swap_mid, neg_unique, minus_one_*}
+use lib.IntN.{+ℤ_assoc, +ℤ_comm, +ℤ_idl, +ℤ_idr, zero-*ℤ, *ℤ-zero, *ℤ_comm, neg_ℤ-+ℤ, neg_ℤ-neg_ℤ}
+use Rattle.arith.proofs.Ring.{distr, distl, neg_*l, one_*ℤ, *ℤ_assoc, *ℤ_swap_mid, *ℤ_swap_first, swap_mid, neg_unique}
 
 infixl 6 ◌:+◌ ◌:-◌
 infixl 7 ◌:*◌

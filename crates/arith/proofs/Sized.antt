@@ -4,8 +4,8 @@
 -- where the code keeps a result in 64 bits; `is_fits` says that it fits, and `.same` that it is the integer. Each `tt` is a comparison of
 -- numerals. So for `p * x + q * y`, where P and Q are p's and q's bounds:
 --     is_fits (is_add (is_back (is_mul (is_num P tt) (is_num X tt)) tt) (is_back (is_mul (is_num Q tt) (is_num Y tt)) tt)) tt
-use Rattle.std.proofs.Common.{◌≡◌, ℕ, ◌+◌, ◌*◌, ◌^◌, ◌<◌, ◌≤◌, Bool, true, false, T, ltb, leb, ℤ, pos, negsuc, ◌+ℤ◌, ◌-ℤ◌, ◌*ℤ◌, neg_ℤ, nat_abs, sym, refl, ap, ◌∙◌, subst, mul-le-mul, arith, ltb→lt, leb→le, to_z-of_z, w64, SFits, to_z, of_z}
-use borrow.Author.Differences.{ints, up, down, product_is, abs_is, sum_is_lem}
+use Rattle.std.proofs.Common.{◌≡◌, ℕ, ◌+◌, ◌*◌, ◌^◌, ◌<◌, ◌≤◌, T, ltb, leb, ℤ, pos, negsuc, ◌+ℤ◌, ◌-ℤ◌, ◌*ℤ◌, neg_ℤ, nat_abs, sym, refl, ap, ◌∙◌, subst, mul-le-mul, arith, ltb→lt, leb→le, to_z-of_z, w64, SFits, to_z, of_z}
+use borrow.Author.Differences.{ints}
 use mir.Facts.{to_z_pos}
 use Rattle.arith.specs.Bounds.{Short}
 

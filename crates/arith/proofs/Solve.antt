@@ -11,12 +11,12 @@
 -- A large term may be handed over as one value, so that nothing in it is multiplied out. What the goal says is matched by computation: a
 -- definition of specs/ that is in it is an `abbrev`, or named on an `unfolding` line. Where the check is refused, the left side of `≡ ok` says
 -- what is left of the difference.
-use Rattle.std.proofs.Common.{◌≡◌, ℕ, zero, suc, Bool, true, false, List, [], ◌∷◌, ℤ, pos, negsuc, ◌+ℤ◌, ◌-ℤ◌, ◌*ℤ◌, neg_ℤ, ◌≤ℤ◌, ◌<ℤ◌, sym, refl, ap, ◌∙◌, subst, ap₂, arith}
+use Rattle.std.proofs.Common.{◌≡◌, ℕ, zero, suc, Bool, true, false, List, [], ◌∷◌, ℤ, pos, negsuc, ◌+ℤ◌, ◌-ℤ◌, ◌*ℤ◌, ◌≤ℤ◌, ◌<ℤ◌, sym, refl, ap, ◌∙◌, subst, ap₂, arith}
 use Rattle.std.proofs.lemmas.Int.{ints}
-use lib.IntN.{+ℤ_idl, +ℤ_idr, +ℤ_invr, *ℤ-zero, *ℤ_comm}
+use lib.IntN.{+ℤ_idr, +ℤ_invr, *ℤ-zero, *ℤ_comm}
 use Rattle.arith.proofs.Ring.{one_*ℤ}
 use Rattle.arith.proofs.Order.{mul_nonneg}
-use Rattle.arith.proofs.Poly.{Expr, var, con, ◌:+◌, ◌:*◌, ◌:-◌, neg_e, eval, at, Poly, nil, term, eval_p, eval_m, add_p, mul_p, neg_p, norm, sound, add_p_sound, neg_p_sound, mul_p_sound, sub_zero}
+use Rattle.arith.proofs.Poly.{Expr, var, con, ◌:*◌, ◌:-◌, eval, Poly, nil, term, eval_p, add_p, neg_p, norm, sound, add_p_sound, neg_p_sound, sub_zero}
 
 infix 4 ◌:=◌ ◌:≤◌ ◌:<◌
 infixr 2 ◌·◌⇒◌ ◌⊙◌⇒◌ ◌⟹◌

@@ -6,8 +6,8 @@ use Rattle.solid.proofs.steps.plane_of.Goals as goal
 pub returns : goal.returns
 unfolding numbered_plane
 returns c =
-    let a = to_z-of_z w64 c.lower.result (record { sfits = c.lower.type-inv }) in
-    let b = to_z-of_z w64 c.lower-2.result (record { sfits = c.lower-2.type-inv }) in
-    let cc' = to_z-of_z w64 c.lower-3.result (record { sfits = c.lower-3.type-inv }) in
-    let d = to_z-of_z w64 c.lower-4.result (record { sfits = c.lower-4.type-inv }) in
+    let a = to_z-of_z w64 c.lower.result (record { sfits = c.lower.type_inv }) in
+    let b = to_z-of_z w64 c.lower-2.result (record { sfits = c.lower-2.type_inv }) in
+    let cc' = to_z-of_z w64 c.lower-3.result (record { sfits = c.lower-3.type_inv }) in
+    let d = to_z-of_z w64 c.lower-4.result (record { sfits = c.lower-4.type_inv }) in
     cc

@@ -15,6 +15,6 @@ pub returns-in-2 : goal.returns-in-2
 unfolding step
 returns-in-2 c = simp c.in-2.is
 
-pub returns-in-default : goal.returns-in-default
+pub returns-in_default : goal.returns-in_default
 unfolding step
-returns-in-default c = grind (arith, nat_tests)
+returns-in_default c = grind (arith, nat_tests)

@@ -2,8 +2,8 @@ use Rattle.std.proofs.Common.{◌+◌, ap, arith}
 use Rattle.solid.specs.Steps.{word}
 use Rattle.solid.proofs.steps.word_of.Goals as goal
 
-pub overflow-add-result : goal.overflow-add-result
-overflow-add-result c = omega arith
+pub overflow_add-result : goal.overflow_add-result
+overflow_add-result c = omega arith
 
 pub returns-in-Both : goal.returns-in-Both
 unfolding word
@@ -19,4 +19,4 @@ returns-in-Without c = simp c.in-Without.is
 
 pub returns-in-Half : goal.returns-in-Half
 unfolding word
-returns-in-Half c = simp c.in-Half.is (ap (λ n. 3 + n) c.number-of.ensures.value)
+returns-in-Half c = simp c.in-Half.is (ap (λ n. 3 + n) c.number_of.ensures.value)

@@ -11,7 +11,7 @@ pub returns-in-Half : goal.returns-in-Half
 unfolding holds by
 returns-in-Half c =
     record {
-      stack = λ st k. at_half (ValuesAt c.args.q) c.in-Half.p c.args.s c.in-Half.is st c.args.work.now c.args.top _ c.requires.room (bit_byte c.is-below.result ∙ ap bit c.is-below.ensures) k;
+      stack = λ st k. at_half (ValuesAt c.args.q) c.in-Half.p c.args.s c.in-Half.is st c.args.work.now c.args.top _ c.requires.room (bit_byte c.is_below.result ∙ ap bit c.is_below.ensures) k;
       grows = omega arith;
     }
 

@@ -19,14 +19,14 @@ apply-top-requires c =
     let m = makes_more c.requires.shape.shape c.args.steps.now c.loop-w.w-index v.0 c.loop-w-test.true (v.2 c.requires.shape.shape (coded_makes c.args.steps.now c.requires.shape)) in
     let x = step (get_or c.args.steps.now c.loop-w.w-index 0) in
     let enough : Enough x n = subst (λ (k : ℕ). Enough x k) e m.0 in
-    record { place = c.requires.place; room = omega arith; enough = subst (λ (y : Step). Enough y n) (sym c.step-of.ensures) enough }
+    record { place = c.requires.place; room = omega arith; enough = subst (λ (y : Step). Enough y n) (sym c.step_of.ensures) enough }
 
 pub loop-w-preserved : goal.loop-w-preserved
 loop-w-preserved c =
     let v = c.loop-w.invariant.1 in
     let R = ValuesAt c.args.q in
     let x = step (get_or c.args.steps.now c.loop-w.w-index 0) in
-    let k = subst (λ (y : Step). Stacked R (after y v.0) c.apply-top.new.work c.apply-top.result) c.step-of.ensures (c.apply-top.ensures.stack v.0 v.1) in
+    let k = subst (λ (y : Step). Stacked R (after y v.0) c.apply-top.new.work c.apply-top.result) c.step_of.ensures (c.apply-top.ensures.stack v.0 v.1) in
     let g = c.apply-top.ensures.grows in
     (omega arith, (after x v.0, k, λ s m. (makes_more s c.args.steps.now c.loop-w.w-index v.0 c.loop-w-test.true (v.2 s m)).1))
 

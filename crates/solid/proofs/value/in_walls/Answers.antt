@@ -5,7 +5,7 @@ use Rattle.solid.proofs.value.in_walls.Goals as goal
 
 pub returns : goal.returns
 returns c =
-    in_walls c.args.q c.unsigned-abs-x.result c.unsigned-abs-y.result c.unsigned-abs-z.result
-    (c.unsigned-abs-x.ensures.value ∙ ap nat_abs (is_num c.requires.place.x tt).same)
-    (c.unsigned-abs-y.ensures.value ∙ ap nat_abs (is_num c.requires.place.y tt).same)
-    (c.unsigned-abs-z.ensures.value ∙ ap nat_abs (is_num c.requires.place.z tt).same)
+    in_walls c.args.q c.unsigned_abs-x.result c.unsigned_abs-y.result c.unsigned_abs-z.result
+    (c.unsigned_abs-x.ensures.value ∙ ap nat_abs (is_num c.requires.place.x tt).same)
+    (c.unsigned_abs-y.ensures.value ∙ ap nat_abs (is_num c.requires.place.y tt).same)
+    (c.unsigned_abs-z.ensures.value ∙ ap nat_abs (is_num c.requires.place.z tt).same)

@@ -10,7 +10,7 @@ or_false false = refl
 
 pub returns-in-Half : goal.returns-in-Half
 unfolding on_some
-returns-in-Half c = c.is-on.ensures ∙ or_false _ ∙ ap (λ (x : Step). on_some (plane_of_step x) c.args.q) (sym c.in-Half.is)
+returns-in-Half c = c.is_on.ensures ∙ or_false _ ∙ ap (λ (x : Step). on_some (plane_of_step x) c.args.q) (sym c.in-Half.is)
 
 pub returns-in-Both : goal.returns-in-Both
 unfolding on_some

@@ -10,5 +10,5 @@ unfolding told solid holds by planes
 returns c s f e =
     c.decided.ensures
     ∙ ap₂ (λ (t i : Bool). cond t On (cond i In Out))
-    (ap₂ ◌||◌ c.on-walls.ensures (c.touches.ensures s f e) ∙ sym (on_some-append c.args.q (planes workshop) (planes s)))
-    (ap₂ ◌&&◌ c.in-walls.ensures (c.holds-at.ensures s f e))
+    (ap₂ ◌||◌ c.on_walls.ensures (c.touches.ensures s f e) ∙ sym (on_some-append c.args.q (planes workshop) (planes s)))
+    (ap₂ ◌&&◌ c.in_walls.ensures (c.holds_at.ensures s f e))
