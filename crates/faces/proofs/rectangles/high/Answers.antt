@@ -14,5 +14,5 @@ returns c =
     let w = λ (l : List Plane) (n : ℕ). get_or l n (plane (pos 0) (pos 0) (pos 0) (pos 0)) in
     valued FitsFace (high_face b)
     (parts (ap (λ l. w l 0) c.walls.ensures.value) (ap (λ l. w l 2 ∷ w l 3 ∷ w l 4 ∷ w l 5 ∷ []) c.walls.ensures.value)
-    (c.middle-of.ensures ∙ ap (middle_at b) (omega (arith, ints))) (c.round.ensures ∙ ap (round_at b) (omega (arith, ints))))
+    (c.middle_of.ensures ∙ ap (middle_at b) (omega (arith, ints))) (c.round.ensures ∙ ap (round_at b) (omega (arith, ints))))
     (high_fits b c.requires)

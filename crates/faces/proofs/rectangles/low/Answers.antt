@@ -17,5 +17,5 @@ returns c =
     let v = λ (l : List Place) (n : ℕ). get_or l n (at (pos 0) (pos 0) (pos 0) 0) in
     valued FitsFace (low_face b)
     (parts (ap (λ l. w l 1) c.walls.ensures.value) (ap (λ l. w l 4 ∷ w l 5 ∷ w l 2 ∷ w l 3 ∷ []) c.walls.ensures.value)
-    (c.middle-of.ensures ∙ ap (middle_at b) (omega (arith, ints))) (ap (λ l. v l 0 ∷ v l 3 ∷ v l 2 ∷ v l 1 ∷ []) (c.round.ensures ∙ ap (round_at b) (omega (arith, ints)))))
+    (c.middle_of.ensures ∙ ap (middle_at b) (omega (arith, ints))) (ap (λ l. v l 0 ∷ v l 3 ∷ v l 2 ∷ v l 1 ∷ []) (c.round.ensures ∙ ap (round_at b) (omega (arith, ints)))))
     (low_fits b c.requires)

@@ -7,4 +7,4 @@ pub returns : goal.returns
 unfolding rolled_face
 returns c =
     let f = as_face c.args.f in
-    valued FitsFace (rolled_face f) (parts c.rolled.ensures.value c.turned-planes.ensures c.turned-place.ensures c.turned-places.ensures) (rolled_face_fits f c.requires)
+    valued FitsFace (rolled_face f) (parts c.rolled.ensures.value c.turned_planes.ensures c.turned_place.ensures c.turned_places.ensures) (rolled_face_fits f c.requires)

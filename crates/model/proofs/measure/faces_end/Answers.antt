@@ -7,24 +7,24 @@ use Rattle.model.proofs.Finding.{found_no_number, so_far-none, so_far_more}
 use Rattle.model.proofs.Ends.{list_stopped, list_done}
 use Rattle.model.proofs.measure.faces_end.Goals as goal
 
-pub returns-in-err-at : goal.returns-in-err-at
-returns-in-err-at c =
+pub returns-in_err-at : goal.returns-in_err-at
+returns-in_err-at c =
     let l = c.args.model.now in
-    subst (Found (listed w32 face_bytes) (Few InRangeFace w32) l c.args.from) (sym c.from-residual.ensures) (found_no_number face_bytes InRangeFace w32 l c.args.from c.in-err-at.ensures)
+    subst (Found (listed w32 face_bytes) (Few InRangeFace w32) l c.args.from) (sym c.from_residual.ensures) (found_no_number face_bytes InRangeFace w32 l c.args.from c.in_err-at.ensures)
 
 pub loop-init : goal.loop-init
-loop-init c = so_far-none face_bytes InRangeFace c.args.model.now c.in-ok-at.at c.in-ok-at.ensures.1
+loop-init c = so_far-none face_bytes InRangeFace c.args.model.now c.in_ok-at.at c.in_ok-at.ensures.1
 
-pub face-end-requires : goal.face-end-requires
-face-end-requires c = record { there = c.loop.invariant.2.within }
+pub face_end-requires : goal.face_end-requires
+face_end-requires c = record { there = c.loop.invariant.2.within }
 
-pub returns-in-err-at-2 : goal.returns-in-err-at-2
-returns-in-err-at-2 c =
-    subst (Found (listed w32 face_bytes) (Few InRangeFace w32) c.args.model.now c.args.from) (sym c.from-residual-in-err-at-2.ensures)
-    (list_stopped face_code w32 c.in-ok-at.ensures c.long-at-end.ensures c.loop.invariant c.loop-test.true c.in-err-at-2.ensures)
+pub returns-in_err-at-2 : goal.returns-in_err-at-2
+returns-in_err-at-2 c =
+    subst (Found (listed w32 face_bytes) (Few InRangeFace w32) c.args.model.now c.args.from) (sym c.from_residual-in_err-at-2.ensures)
+    (list_stopped face_code w32 c.in_ok-at.ensures c.long_at-end.ensures c.loop.invariant c.loop-test.true c.in_err-at-2.ensures)
 
 pub loop-preserved : goal.loop-preserved
-loop-preserved c = so_far_more c.loop.invariant c.in-ok-at-2.ensures
+loop-preserved c = so_far_more c.loop.invariant c.in_ok-at-2.ensures
 
 pub returns : goal.returns
-returns c = list_done face_code w32 c.in-ok-at.ensures c.long-at-end.ensures c.loop.invariant (search rules)
+returns c = list_done face_code w32 c.in_ok-at.ensures c.long_at-end.ensures c.loop.invariant (search rules)

@@ -5,10 +5,10 @@ use Rattle.model.specs.Finds.{Found}
 use Rattle.model.proofs.Ends.{piece_found, no_planes}
 use Rattle.model.proofs.measure.piece_end.Goals as goal
 
-pub returns-in-err-place : goal.returns-in-err-place
-returns-in-err-place c =
+pub returns-in_err-place : goal.returns-in_err-place
+returns-in_err-place c =
     let l = c.args.model.now in
-    subst (Found piece_bytes InRangePiece l c.args.at) (sym c.from-residual.ensures) (no_planes l c.type-inv.model c.args.at c.in-err-place.ensures)
+    subst (Found piece_bytes InRangePiece l c.args.at) (sym c.from_residual.ensures) (no_planes l c.type_inv.model c.args.at c.in_err-place.ensures)
 
 pub returns : goal.returns
-returns c = piece_found c.args.model.now c.type-inv.model c.args.at c.in-ok-place.place c.in-ok-place.ensures c.skip.result c.skip.ensures
+returns c = piece_found c.args.model.now c.type_inv.model c.args.at c.in_ok-place.place c.in_ok-place.ensures c.skip.result c.skip.ensures

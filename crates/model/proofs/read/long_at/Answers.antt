@@ -3,4 +3,4 @@ use Rattle.model.proofs.Decodes.{count_read}
 use Rattle.model.proofs.read.long_at.Goals as goal
 
 pub returns : goal.returns
-returns c = count_read w32 3 refl c.args.model.now c.args.at c.type-inv.model c.requires.there c.copy-from-slice.ensures.after c.from-le-bytes.ensures
+returns c = count_read w32 3 refl c.args.model.now c.args.at c.type_inv.model c.requires.there c.copy_from_slice.ensures.after c.from_le_bytes.ensures

@@ -4,4 +4,4 @@ use Rattle.model.proofs.read.place_at.Goals as goal
 pub returns : goal.returns
 returns c =
     place_read c.args.model.now c.args.at
-    (stored tt c.wide-at.ensures) (stored tt c.wide-at-2.ensures) (stored tt c.wide-at-3.ensures) (stored tt c.wide-at-4.ensures)
+    (stored tt c.wide_at.ensures) (stored tt c.wide_at-2.ensures) (stored tt c.wide_at-3.ensures) (stored tt c.wide_at-4.ensures)

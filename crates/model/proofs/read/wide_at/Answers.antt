@@ -4,5 +4,5 @@ use Rattle.model.proofs.read.wide_at.Goals as goal
 
 pub returns : goal.returns
 returns c =
-    signed_read w64 7 refl c.args.model.now c.args.at c.type-inv.model c.requires.there c.copy-from-slice.ensures.after
-    (to_z-of_z {w = w64} (record { sfits = c.from-le-bytes.type-inv }) ∙ c.from-le-bytes.ensures)
+    signed_read w64 7 refl c.args.model.now c.args.at c.type_inv.model c.requires.there c.copy_from_slice.ensures.after
+    (to_z-of_z {w = w64} (record { sfits = c.from_le_bytes.type_inv }) ∙ c.from_le_bytes.ensures)

@@ -6,8 +6,8 @@ use Rattle.model.proofs.Codes.{length-listed, length-plane, length-place, w_smal
 use Rattle.model.proofs.Writes.{at_first, and_then, regroup₄}
 use Rattle.model.proofs.write.put_face.Goals as goal
 
-pub put-places-requires : goal.put-places-requires
-put-places-requires c =
+pub put_places-requires : goal.put_places-requires
+put_places-requires c =
     let e : length (map wire_place c.args.corners.now) ≡ length c.args.corners.now = length-map c.args.corners.now wire_place in
     record {
       few = omega (arith, c.requires.range.few_corners);
@@ -22,15 +22,15 @@ returns c =
     let es = c.args.edges.now in
     let qs = c.args.corners.now in
     let q = wire_place c.args.place in
-    let j = c.put-planes-at.result in
-    let k = c.put-places.result in
-    let ej : j ≡ 2 + 7 * length es = c.put-planes-at.ensures.long in
-    let ek : k ≡ 2 + 32 * length qs = c.put-places.ensures.long in
+    let j = c.put_planes-at.result in
+    let k = c.put_places.result in
+    let ej : j ≡ 2 + 7 * length es = c.put_planes-at.ensures.long in
+    let ek : k ≡ 2 + 32 * length qs = c.put_places.ensures.long in
     let lc : length (listed w16 place_bytes (map wire_place qs)) ≡ k = length-listed w16 place_bytes 32 length-place (map wire_place qs) ∙ ap (λ (n : ℕ). 2 + 32 * n) (length-map qs wire_place) ∙ sym ek in
-    let one = at_first m (length-plane c.args.plane) c.put-plane.ensures in
-    let two = and_then (listed w16 plane_bytes es) c.put-planes-at.new.out j one (length-listed w16 plane_bytes 7 length-plane es ∙ sym ej) c.put-planes-at.ensures.written in
-    let three = and_then (place_bytes q) c.put-place.new.out 32 two (length-place q) c.put-place.ensures in
-    let four = and_then (listed w16 place_bytes (map wire_place qs)) c.put-places.new.out k three lc c.put-places.ensures.written in
+    let one = at_first m (length-plane c.args.plane) c.put_plane.ensures in
+    let two = and_then (listed w16 plane_bytes es) c.put_planes-at.new.out j one (length-listed w16 plane_bytes 7 length-plane es ∙ sym ej) c.put_planes-at.ensures.written in
+    let three = and_then (place_bytes q) c.put_place.new.out 32 two (length-place q) c.put_place.ensures in
+    let four = and_then (listed w16 place_bytes (map wire_place qs)) c.put_places.new.out k three lc c.put_places.ensures.written in
     record {
       written = four.is ∙ ap (λ (l : List ℕ). l ++ drop (7 + j + 32 + k) m) (regroup₄ (plane_bytes c.args.plane) (listed w16 plane_bytes es) (place_bytes q) (listed w16 place_bytes (map wire_place qs)));
       long = omega arith;

@@ -5,4 +5,4 @@ use Rattle.model.proofs.write.put_long.Goals as goal
 
 pub returns : goal.returns
 unfolding count_bytes
-returns c = ap (λ (l : List ℕ). l ++ drop 4 c.args.out.now) (c.copy-from-slice.ensures.after ∙ c.to-le-bytes.ensures ∙ sym (by-weight 3 c.args.n))
+returns c = ap (λ (l : List ℕ). l ++ drop 4 c.args.out.now) (c.copy_from_slice.ensures.after ∙ c.to_le_bytes.ensures ∙ sym (by-weight 3 c.args.n))

@@ -8,9 +8,9 @@ use Rattle.model.proofs.write.put_piece.Goals as goal
 pub returns : goal.returns
 unfolding piece_bytes
 returns c =
-    let k : c.put-planes-at.result ≡ 2 + 7 * length c.args.planes.now = c.put-planes-at.ensures.long in
-    let one = at_first c.args.out.now (length-listed w16 plane_bytes 7 length-plane c.args.planes.now ∙ sym k) c.put-planes-at.ensures.written in
+    let k : c.put_planes-at.result ≡ 2 + 7 * length c.args.planes.now = c.put_planes-at.ensures.long in
+    let one = at_first c.args.out.now (length-listed w16 plane_bytes 7 length-plane c.args.planes.now ∙ sym k) c.put_planes-at.ensures.written in
     record {
-      written = (and_then (place_bytes (wire_place c.args.place)) c.put-place.new.out 32 one (length-place _) c.put-place.ensures).is;
+      written = (and_then (place_bytes (wire_place c.args.place)) c.put_place.new.out 32 one (length-place _) c.put_place.ensures).is;
       long = omega arith;
     }

@@ -4,4 +4,4 @@ use Rattle.model.proofs.write.put_short.Goals as goal
 
 pub returns : goal.returns
 unfolding count_bytes
-returns c = ap (λ (l : List ℕ). l ++ drop 2 c.args.out.now) (c.copy-from-slice.ensures.after ∙ c.to-le-bytes.ensures)
+returns c = ap (λ (l : List ℕ). l ++ drop 2 c.args.out.now) (c.copy_from_slice.ensures.after ∙ c.to_le_bytes.ensures)

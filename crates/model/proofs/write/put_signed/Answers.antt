@@ -7,4 +7,4 @@ pub returns : goal.returns
 unfolding signed_bytes
 returns c =
     ap (λ (l : List ℕ). l ++ drop 8 c.args.out.now)
-    (c.copy-from-slice.ensures.after ∙ c.to-le-bytes.ensures ∙ sym (by-weight 7 _) ∙ ap (signed_bytes w64) (to_z-of_z c.ranges.n))
+    (c.copy_from_slice.ensures.after ∙ c.to_le_bytes.ensures ∙ sym (by-weight 7 _) ∙ ap (signed_bytes w64) (to_z-of_z c.ranges.n))

@@ -19,8 +19,8 @@ part-line-requires c =
       long = l;
       inside = tail-inside c.args.text.now c.args.tokens.now c.loop-at.at c.requires.taken.inside;
       taken = part-there g c.loop-at-test.true c.if-is-part.ensures;
-      spots-room = omega arith;
-      steps-room = omega arith;
+      spots_room = omega arith;
+      steps_room = omega arith;
     }
 
 pub loop-at-preserved-then-is-part : goal.loop-at-preserved-then-is-part
@@ -35,7 +35,7 @@ place-line-requires c =
       inside = tail-inside c.args.text.now c.args.tokens.now c.loop-at.at c.requires.taken.inside;
       names = front_inside c.args.text.now c.args.names.now _ c.requires.taken.names_inside;
       spots = simp length-take (omega arith);
-      asked-room = omega arith;
+      asked_room = omega arith;
     }
 
 pub loop-at-preserved : goal.loop-at-preserved

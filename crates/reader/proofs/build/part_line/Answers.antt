@@ -8,11 +8,11 @@ use Rattle.reader.proofs.build.part_line.Goals as goal
 pub returns : goal.returns
 returns c =
     record {
-      spots = pair_written c.args.spots.now (2 * c.args.parts) c.args.used 11 c.requires.spots-room;
+      spots = pair_written c.args.spots.now (2 * c.args.parts) c.args.used 11 c.requires.spots_room;
       steps =
           λ p.
           written c.args.used 11 _ c.args.steps.now c.copy-from-slice.new.self (words (box p.x0 p.x1 p.y0 p.y1 p.z0 p.z1))
           (c.copy-from-slice.ensures.after ∙ c.box-of-words.ensures p)
           (box-length p.x0 p.x1 p.y0 p.y1 p.z0 p.z1)
-          c.requires.steps-room;
+          c.requires.steps_room;
     }

@@ -36,4 +36,4 @@ returns c p =
     let z = as_word text line 4 c.number-z.result p.z c.cast-unsigned-3.result (omega arith) (word 4) n.z c.number-z.ensures c.cast-unsigned-3.ensures in
     let w = as_word text line 5 c.number-w.result p.w c.cast-unsigned-4.result (omega arith) (word 5) n.w_short c.number-w.ensures c.cast-unsigned-4.ensures ∙ ap (of_z w64) n.real in
     let q = six c.spot-of-spot.result (pairs p.name.0) _ _ _ _ (of_z w64 p.x) (of_z w64 p.y) (of_z w64 p.z) (nat_abs p.w) spot x y z w in
-    written (6 * c.args.count) 6 _ c.args.asked.now c.copy-from-slice.new.self _ (c.copy-from-slice.ensures.after ∙ q) (sym (ap length q)) c.requires.asked-room
+    written (6 * c.args.count) 6 _ c.args.asked.now c.copy-from-slice.new.self _ (c.copy-from-slice.ensures.after ∙ q) (sym (ap length q)) c.requires.asked_room

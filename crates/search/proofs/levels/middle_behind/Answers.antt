@@ -4,5 +4,5 @@ use Rattle.search.proofs.levels.middle_behind.Goals as goal
 
 pub returns : goal.returns
 returns c =
-    ap (to_z w64) c.cast-unsigned.ensures
+    ap (to_z w64) c.cast_unsigned.ensures
     ∙ (is_back (is_back (is_add (is_back (is_mul (is_pos {k = 2} {n = 2} (lit≤ tt)) (is_num c.requires tt)) tt) (is_pos {k = 1} {n = 1} (lit≤ tt))) tt) tt).same
