@@ -1,14 +1,14 @@
 -- The machine is exact: what a stack may still read, behind a byte, is what the next stack may read.
-use Rattle.std.proofs.Common.{◌≡◌, ℕ, suc, ◌+◌, ◌≤◌, Bool, true, false, cond, not, ◌&&◌, ◌||◌, eqb, leb, ◌⊎◌, List, [], ◌∷◌, ◌++◌, length, ℤ, codes, sym, refl, ap, ◌∙◌, subst, subst₂, inl, inr, append_assoc, arith, length-append}
+use Rattle.std.proofs.Common.{◌≡◌, ℕ, ◌≤◌, Bool, true, false, cond, ◌&&◌, ◌||◌, eqb, leb, ◌⊎◌, List, [], ◌∷◌, ◌++◌, length, ℤ, codes, sym, refl, ap, ◌∙◌, subst, subst₂, inl, inr, append_assoc, arith, length-append}
 use mathlib.Core.Option.{Option, none, some}
-use Rattle.std.proofs.lemmas.Bool.{both_ways, eqb-true, eqb-false, eq-eqb, ne_eqb, leb-true, le-leb, and_parts, and_from, cases_Bool, or_left, or_right, or_cases, or_from, cond_both, cond-true, cond-false}
-use Rattle.grammar.specs.Grammar.{Expr, half, box, two, move, one, called, Two, both, either, without, One, mirror, swap, turn, two_word, one_word, Line, part, place, same_as, meet, model, on_e, on_l, print, Text, is_word, is_name, is_num, is_pos, is_empty, digit, digit1, letter, alnum, within, all, same, one_of, Name, signed}
+use Rattle.std.proofs.lemmas.Bool.{both_ways, eqb-true, eq-eqb, leb-true, le-leb, and_parts, and_from, or_left, or_cases, or_from, cond_both, cond-true, cond-false}
+use Rattle.grammar.specs.Grammar.{Expr, half, box, two, move, one, called, Two, both, either, without, One, mirror, swap, turn, two_word, one_word, Line, part, place, same_as, meet, model, on_e, on_l, print, Text, is_word, is_name, is_num, is_pos, is_empty, digit, digit1, letter, alnum, all, same, one_of, Name, signed}
 use Rattle.grammar.proofs.Numbers.{signed_num, num_signed}
 use Rattle.grammar.specs.declared.types.Sep.{Sep}
 use Rattle.grammar.specs.declared.types.Sep.TheVariants.{Space, Comma, Close, End}
 use Rattle.grammar.specs.declared.types.Kind.{Kind}
 use Rattle.grammar.specs.declared.types.Kind.TheVariants.{HalfWord, BoxWord, TwoWord, MoveWord, OneWord, NameWord, NoWord}
-use Rattle.grammar.specs.Machine.{byte, Sym, lit, num, minus, digits, name, expr, after_p, after_m, two_words, one_words, kind_of, behind, step, run, Good}
+use Rattle.grammar.specs.Machine.{byte, Sym, lit, num, minus, digits, name, expr, after_p, after_m, two_words, one_words, kind_of, behind, step, Good}
 
 -- what a stack may still read
 abbrev pub Gen : List Sym → List ℕ → Type 0

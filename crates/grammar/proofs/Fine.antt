@@ -1,14 +1,13 @@
 -- The words of lines have no fault exactly if the lines are fine.
-use Rattle.std.proofs.Common.{◌≡◌, ℕ, zero, suc, ◌+◌, ◌-◌, ◌<◌, ◌≤◌, Bool, true, false, cond, not, ◌&&◌, ◌||◌, T, eqb, ltb, leb, List, [], ◌∷◌, ◌++◌, map, length, get_or, take, drop, ℤ, pos, negsuc, nat_abs, codes, filter, sym, refl, ap, ◌∙◌, subst, ap₂, arith, ltb→lt, length-drop, ltb-false, ltb-true, le-ltb, lt-ltb, eqb-true, le-leb}
-use lib.Signed.{le_z}
+use Rattle.std.proofs.Common.{◌≡◌, ℕ, suc, ◌+◌, ◌<◌, ◌≤◌, Bool, true, false, cond, not, ◌&&◌, ◌||◌, T, eqb, ltb, leb, List, [], ◌∷◌, ◌++◌, map, length, drop, ℤ, pos, negsuc, nat_abs, codes, filter, sym, refl, ap, ◌∙◌, subst, ap₂, arith, ltb→lt, length-drop, ltb-false, ltb-true, eqb-true, le-leb}
 use borrow.Author.Tests.{lt-leb, eqb-false}
 use Rattle.std.specs.List.{AllByRecursion as All}
 use Rattle.std.proofs.ByRecursion.{All-map, All-weaker}
 use Rattle.std.proofs.lemmas.Bool.{both_ways, and_from, and_right, cond-true}
-use Rattle.grammar.specs.Grammar.{Expr, half, box, two, move, one, called, Two, both, either, without, One, mirror, swap, turn, Name, Line, part, place, same_as, meet, model, same, one_of, is_name, print, signed, decimal, Text}
+use Rattle.grammar.specs.Grammar.{Expr, half, box, two, move, one, called, both, either, without, mirror, swap, turn, Name, Line, part, place, same_as, meet, model, same, one_of, is_name, print, signed, decimal}
 use Rattle.grammar.specs.Tokens.{in_tok, tok_at, starts_from, code_e, code_of}
 use Rattle.grammar.specs.Values.{read_on, number_limit, scale_most}
-use Rattle.grammar.specs.Faults.{Fault, fault, Token, token, tokens, Role, new_name, used_name, shape, measure, scale, of_part, of_place, of_box, scan, if_so, looked, word_faults, amount, negative, beyond, no_scale, most_parts, later}
+use Rattle.grammar.specs.Faults.{Fault, Token, token, tokens, Role, new_name, used_name, shape, measure, scale, of_part, of_place, of_box, scan, if_so, looked, word_faults, amount, negative, beyond, no_scale, most_parts, later}
 use Rattle.grammar.specs.Meaning.{short, scales, fine, fine_shape}
 use Rattle.grammar.proofs.First.{all-inside}
 use Rattle.grammar.proofs.Tokens.{text_code, placed}

@@ -1,11 +1,10 @@
 -- Which fault of a text comes first.
-use Rattle.std.proofs.Common.{◌≡◌, ℕ, zero, suc, ◌+◌, ◌-◌, ◌<◌, ◌≤◌, Bool, true, false, cond, not, ◌&&◌, eqb, ltb, leb, ◌⊎◌, List, [], ◌∷◌, ◌++◌, map, length, get_or, take, drop, codes, filter, sym, refl, ap, ◌∙◌, subst, inl, inr, append-nil, arith, length-take, le-ltb}
+use Rattle.std.proofs.Common.{◌≡◌, ℕ, suc, ◌+◌, ◌-◌, ◌<◌, ◌≤◌, Bool, true, false, cond, not, ◌&&◌, eqb, ltb, leb, ◌⊎◌, List, [], ◌∷◌, ◌++◌, length, get_or, take, drop, codes, filter, sym, refl, ap, ◌∙◌, subst, inl, inr, append-nil, arith, length-take, le-ltb}
 use Rattle.std.specs.List.{ContainsAt as Has, AllByRecursion as All}
 use Rattle.std.proofs.ByRecursion.{All-append, All-weaker, All-get_or, All-map, all-has}
 use Rattle.std.proofs.lemmas.Bool.{cases_order, cond-false, and_left}
-use Rattle.std.proofs.lemmas.List.{take_all, take-take}
-use Rattle.grammar.specs.Grammar.{same, one_of, is_name, Text, Viable, Refused}
-use Rattle.grammar.specs.Laws.{OnePlace, NotBoth}
+use Rattle.std.proofs.lemmas.List.{take_all}
+use Rattle.grammar.specs.Grammar.{same, one_of, is_name, Text, Refused}
 use Rattle.grammar.specs.Tokens.{in_tok, tok_at, starts_from, once_if}
 use Rattle.grammar.specs.Faults.{Fault, fault, Token, token, tokens, Role, new_name, used_name, shape, measure, scale, of_part, of_place, of_box, scan, if_so, looked, word_faults, beyond, no_scale, most_parts, later, most_bytes, Reaches, seen, Faulty, stuck, long, wrong, Before, FirstFault}
 use Rattle.grammar.proofs.Spacing.{Ascends, ascends_all, word_faults_ascend}

@@ -1,13 +1,11 @@
 -- A text is the text of one list of lines only.
-use Rattle.std.proofs.Common.{◌≡◌, ℕ, suc, ◌+◌, ◌<◌, ◌≤◌, Bool, true, false, cond, not, ◌&&◌, ◌||◌, eqb, leb, ◌⊎◌, List, [], ◌∷◌, ◌++◌, ℤ, codes, sym, refl, ap, ◌∙◌, subst, subst₂, inl, inr, arith}
+use Rattle.std.proofs.Common.{◌≡◌, ℕ, Bool, true, false, cond, eqb, leb, List, [], ◌∷◌, ◌++◌, ℤ, codes, sym, refl, ap, ◌∙◌, subst, arith}
 use mathlib.Core.HLevel.{Σ_prop_path}
 use mathlib.Core.Bool.{So-prop}
 use Rattle.std.proofs.lemmas.Bool.{both_ways, and_parts, and_from, or_left, or_right, or_parts, cond-true, cond-false, leb-true, le-leb, eqb-true}
 use Rattle.std.proofs.lemmas.List.{append_cancel_left}
 use Rattle.grammar.specs.Grammar.{Expr, half, box, two, move, one, called, Two, both, either, without, One, mirror, swap, turn, two_word, one_word, Line, part, place, same_as, meet, model, on_e, on_l, print, is_word, is_name, is_num, is_pos, is_empty, digit, digit1, letter, alnum, all, Name, signed}
 use Rattle.grammar.proofs.Numbers.{signed_num, signed_once}
-use Rattle.grammar.specs.declared.types.Sep.{Sep}
-use Rattle.grammar.specs.declared.types.Sep.TheVariants.{Space, Comma, Close, End}
 use Rattle.grammar.specs.declared.types.Kind.{Kind}
 use Rattle.grammar.specs.declared.types.Kind.TheVariants.{HalfWord, BoxWord, TwoWord, MoveWord, OneWord, NameWord, NoWord}
 use Rattle.grammar.specs.Machine.{kind_of}

@@ -1,10 +1,10 @@
 -- The tokens of a text are the code of its lines.
-use Rattle.std.proofs.Common.{◌≡◌, ℕ, zero, suc, ◌+◌, ◌<◌, ◌≤◌, Bool, true, false, cond, not, ◌&&◌, ◌||◌, List, [], ◌∷◌, ◌++◌, map, length, get_or, drop, ℤ, pos, negsuc, codes, sym, refl, ap, ◌∙◌, subst, append_assoc, append-nil, add-one, arith}
+use Rattle.std.proofs.Common.{◌≡◌, ℕ, zero, suc, ◌+◌, ◌<◌, ◌≤◌, Bool, true, false, not, ◌&&◌, List, [], ◌∷◌, ◌++◌, map, length, get_or, drop, ℤ, codes, sym, refl, ap, ◌∙◌, append_assoc, append-nil, add-one, arith}
 use Rattle.std.proofs.lemmas.List.{drop_more, drop_all}
 use Rattle.std.proofs.lemmas.Bool.{both_ways, and_parts, cond-true, cond-false}
-use Rattle.grammar.specs.Grammar.{Expr, half, box, two, move, one, called, Line, part, place, same_as, meet, model, on_e, on_l, print, two_word, one_word, signed, all, Name, is_name, is_num, is_word, Two, both, either, without, One, mirror, swap, turn}
+use Rattle.grammar.specs.Grammar.{Expr, half, box, two, move, one, called, Line, part, place, same_as, meet, model, on_e, on_l, print, two_word, one_word, signed, all, Name, is_name, is_num, Two, both, either, without, One, mirror, swap, turn}
 use Rattle.grammar.specs.Tokens.{in_tok, tok_at, once_if, toks_from, starts_from, code_e, code_l, code_of, Placed}
-use Rattle.grammar.proofs.Once.{tok_name, tok_num, tok_two, tok_one}
+use Rattle.grammar.proofs.Once.{tok_name, tok_num}
 use Rattle.grammar.proofs.Numbers.{signed_num}
 
 -- a whole token: some bytes, all of them a token's

@@ -1,7 +1,7 @@
 -- Lines that are fine are taken, and else one fault is told.
-use Rattle.std.proofs.Common.{◌≡◌, ℕ, ◌<◌, ◌≤◌, ◌⊎◌, sym, refl, ap₂, inl, inr, arith}
+use Rattle.std.proofs.Common.{◌≡◌, refl, ap₂, inl, inr, arith}
 use Rattle.grammar.specs.Grammar.{print}
-use Rattle.grammar.specs.Faults.{Fault, fault, Before, FirstFault}
+use Rattle.grammar.specs.Faults.{Fault, fault, Before}
 use Rattle.grammar.specs.Laws.{FineFaultless, OneFault}
 use Rattle.grammar.proofs.First.{no_fault}
 use Rattle.grammar.proofs.Fine.{none_from}

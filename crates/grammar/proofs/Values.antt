@@ -1,11 +1,11 @@
 -- What digits write.
-use Rattle.std.proofs.Common.{◌≡◌, ℕ, zero, suc, ◌+◌, ◌-◌, ◌*◌, ◌<◌, ◌≤◌, Bool, true, false, cond, ◌&&◌, ◌||◌, eqb, leb, ◌⊎◌, List, [], ◌∷◌, ◌++◌, length, get_or, drop, ℤ, pos, negsuc, sym, refl, ap, ◌∙◌, subst, inl, inr, append-nil, arith}
-use Rattle.std.specs.Int.Digits.{number_from_digits, number_from_digits_after}
+use Rattle.std.proofs.Common.{◌≡◌, ℕ, suc, ◌+◌, ◌-◌, ◌*◌, ◌<◌, ◌≤◌, Bool, true, false, cond, eqb, leb, List, [], ◌∷◌, ◌++◌, length, get_or, drop, ℤ, pos, negsuc, sym, refl, ap, ◌∙◌, append-nil, arith}
+use Rattle.std.specs.Int.Digits.{number_from_digits_after}
 use Rattle.std.proofs.lemmas.List.{drop_more}
-use Rattle.std.proofs.lemmas.Bool.{both_ways, and_parts, cond-true, cond-false, cases_Bool, or_parts, le-leb, lt-leb, and_from, and_left, and_right, or_from}
+use Rattle.std.proofs.lemmas.Bool.{and_parts, cond-true, cond-false, or_parts, le-leb, lt-leb, and_from, and_left, and_right}
 use Rattle.grammar.specs.Grammar.{digit, letter, alnum, all, decimal, signed}
 use Rattle.grammar.specs.Tokens.{in_tok, tok_at}
-use Rattle.grammar.specs.Values.{read_on, size}
+use Rattle.grammar.specs.Values.{read_on}
 use Rattle.grammar.proofs.Numbers.{decimal-value, decimal_digits, downs, no_minus}
 
 pub read_ge : (v : ℕ) (xs : List ℕ) → v ≤ read_on v xs

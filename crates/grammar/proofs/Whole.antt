@@ -1,11 +1,10 @@
 -- The machine's runs: which bytes begin a text, and which are one.
-use Rattle.std.proofs.Common.{◌≡◌, ℕ, suc, ◌+◌, ◌<◌, ◌≤◌, Bool, true, false, cond, not, ◌&&◌, ◌||◌, eqb, leb, ◌⊎◌, List, [], ◌∷◌, ◌++◌, length, get_or, take, ℤ, pos, codes, sym, refl, ap, ◌∙◌, subst, subst₂, inl, inr, append_assoc, append-nil, arith, length-append}
+use Rattle.std.proofs.Common.{◌≡◌, ℕ, ◌+◌, ◌<◌, Bool, true, false, cond, not, ◌&&◌, eqb, ◌⊎◌, List, [], ◌∷◌, ◌++◌, length, get_or, take, pos, codes, sym, refl, ap, ◌∙◌, subst, inl, inr, append_assoc, append-nil, arith}
 use mathlib.Core.Option.{Option, none, some}
-use Rattle.std.proofs.lemmas.Bool.{both_ways, and_parts, and_from, cases_Bool, or_left, or_right, or_cases, or_from, cond_both, not_from_false, not-false, not-true, and_cases, and_left, and_right}
+use Rattle.std.proofs.lemmas.Bool.{both_ways, and_parts, or_cases, cond_both, not-false, and_cases, and_left, and_right}
 use Rattle.std.proofs.lemmas.List.{take_more, take_all}
-use Rattle.grammar.specs.Grammar.{Expr, half, box, two, move, one, called, Two, both, either, without, One, mirror, swap, turn, Line, part, place, same_as, meet, model, on_e, on_l, Text, Viable, Refused, is_word, is_name, is_empty, digit, digit1, alnum, all, same, one_of, reserved, Name, two_word, one_word, signed}
+use Rattle.grammar.specs.Grammar.{Expr, half, box, two, move, one, called, both, either, without, mirror, swap, turn, Line, part, place, same_as, meet, model, on_e, on_l, Text, Viable, Refused, is_word, is_name, is_empty, digit, digit1, alnum, all, same, one_of, reserved, signed}
 use Rattle.grammar.specs.declared.types.Sep.{Sep}
-use Rattle.grammar.specs.declared.types.Sep.TheVariants.{Space, Comma, Close, End}
 use Rattle.grammar.specs.declared.types.Kind.{Kind}
 use Rattle.grammar.specs.declared.types.Kind.TheVariants.{HalfWord, BoxWord, TwoWord, MoveWord, OneWord, NameWord, NoWord}
 use Rattle.grammar.specs.Machine.{byte, Sym, lit, num, minus, digits, name, expr, after_p, after_m, kind_of, behind, step, run, Good}

@@ -4,7 +4,7 @@
 --   2  a name that is twice, or isn't there yet
 --   3  too many bytes or parts
 --   4  a number out of range
-use Rattle.std.specs.Prelude.{◌≡◌, ℕ, suc, ◌+◌, ◌-◌, ◌<◌, ◌≤◌, Bool, true, false, cond, not, ◌&&◌, ◌||◌, leb, ◌⊎◌, List, [], ◌∷◌, ◌++◌, map, length, take, drop, codes, filter, ◌==◌, nat_le, nat_lt}
+use Rattle.std.specs.Prelude.{◌≡◌, ℕ, ◌+◌, ◌-◌, ◌<◌, ◌≤◌, Bool, true, false, cond, not, ◌&&◌, ◌||◌, leb, ◌⊎◌, List, [], ◌∷◌, ◌++◌, map, length, take, drop, codes, filter, ◌==◌, nat_le, nat_lt}
 use Rattle.std.specs.List.{ContainsAt as Has}
 use Rattle.grammar.specs.Grammar.{same, one_of, is_name, Viable, Refused}
 use Rattle.grammar.specs.Tokens.{tok_at, starts_from}

@@ -1,6 +1,6 @@
 -- The reader, byte by byte, over a stack of what is still expected. Each symbol but `lit` has the byte that ends it.
 -- The empty stack stands where a line may begin or the text may end.
-use Rattle.std.specs.Prelude.{◌≡◌, ℕ, suc, ◌+◌, ◌≤◌, Bool, true, false, cond, not, ◌&&◌, ◌||◌, List, [], ◌∷◌, ◌++◌, codes, ◌==◌}
+use Rattle.std.specs.Prelude.{◌≡◌, ℕ, true, cond, List, [], ◌∷◌, ◌++◌, codes, ◌==◌}
 use Rattle.std.proofs.Math.Option.{Option, none, some}
 use Rattle.grammar.specs.declared.types.Sep.{Sep}
 use Rattle.grammar.specs.declared.types.Sep.TheVariants.{Space, Comma, Close, End}

@@ -4,7 +4,7 @@ use Rattle.plane.specs.declared.types.Place.{Place}
 use Rattle.plane.specs.declared.types.Shift.{Shift}
 use Rattle.plane.specs.Moves.{moved_plane, mirrored_plane, swapped_plane, rolled_plane}
 use Rattle.solid.specs.Shapes.{Shape, plane, with_planes, half as below_plane, box as box_of, both as in_both, either as in_either, without as in_without}
-use Rattle.grammar.specs.Grammar.{Expr, half, box, Two, both, either, without, two, move, One, mirror, swap, turn, one, called, Name, Line, part, place, same_as, meet, model, same, one_of}
+use Rattle.grammar.specs.Grammar.{Expr, half, box, Two, both, either, without, two, move, One, mirror, swap, turn, one, called, Line, part, place, same_as, meet, model, same, one_of}
 use Rattle.grammar.specs.Faults.{most_parts}
 use Rattle.grammar.specs.Values.{number_limit, scale_most}
 

@@ -1,5 +1,5 @@
 -- The words and numbers of a text, in their order: a list of lines in front order, without brackets.
-use Rattle.std.specs.Prelude.{◌≡◌, ℕ, suc, ◌<◌, ◌≤◌, Bool, true, false, cond, not, ◌&&◌, ◌||◌, List, [], ◌∷◌, ◌++◌, map, length, drop, codes, ◌==◌}
+use Rattle.std.specs.Prelude.{◌≡◌, ℕ, suc, Bool, true, false, cond, not, ◌&&◌, ◌||◌, List, [], ◌∷◌, ◌++◌, map, drop, codes, ◌==◌}
 use Rattle.grammar.specs.Grammar.{alnum, Expr, half, box, two, move, one, called, Line, part, place, same_as, meet, model, two_word, one_word, signed}
 
 abbrev pub in_tok : ℕ → Bool

@@ -2,7 +2,7 @@
 use Rattle.std.proofs.Common.{◌≡◌, ℕ, suc, ◌+◌, ◌*◌, ◌%◌, ◌^◌, ◌<◌, ◌≤◌, T, leb, List, [], ◌∷◌, map, length, get_or, ℤ, sym, refl, ap, ◌∙◌, ap₂, mul-suc, arith, leb→le, length-append, to_z-of_z, w8, w32, w64, SFits, to_z, of_z}
 use lib.Signed.{mag}
 use mir.Syntax.{Width}
-use mir.Val.{bytes, bits, hbits}
+use mir.Val.{bytes, hbits}
 use mir.Facts.{Fits-of_z}
 use Rattle.std.specs.List.{flat_map, AllByRecursion as All}
 use Rattle.plane.specs.declared.types.Place.{Place}

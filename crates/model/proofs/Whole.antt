@@ -1,7 +1,6 @@
 -- How far the model reaches that bytes begin with.
 use Rattle.std.proofs.Common.{◌≡◌, ℕ, zero, suc, ◌+◌, ◌-◌, ◌^◌, ◌<◌, ◌≤◌, ◌⊎◌, List, [], ◌++◌, length, take, drop, replicate, Some, None, Option, sym, refl, ap, ◌∙◌, subst, inl, inr, append-nil, zero-le, le_antisymm, zero-add, arith, length-append, length-drop, take-append-drop, take_all, w32}
 use native.Mathlib.Nat.{sub-zero}
-use mir.Val.{bytes}
 use Rattle.std.proofs.lemmas.List.{take_at, take-append-le, length-replicate}
 use Rattle.std.proofs.lemmas.Bool.{cases_lt}
 use Rattle.std.specs.List.{between}

@@ -1,7 +1,7 @@
 -- Shapes whose planes are all level.
 --     level_half, level_both                         put together from level half-spaces
 --     box_level                                      boxes, and so the workshop
-use Rattle.std.proofs.Common.{[], ℤ, refl, subst, inl, inr, arith}
+use Rattle.std.proofs.Common.{[], ℤ, refl, subst, inl, inr}
 use Rattle.plane.specs.declared.types.Plane.{Plane}
 use Rattle.solid.specs.Shapes.{Shape, half, both, planes, box, Has}
 use Rattle.solid.proofs.Members.{has_none, has_either, has_part}

@@ -2,7 +2,7 @@
 --     off_fair, fair_off, but_fair, fair_but         Off and OffBut, as said of each axis
 --     stands_fair, stand_in                          a place that stands is such a place, and each such place has one that stands for it
 --     found_at                                       what is found among those that stand, said of all
-use Rattle.std.proofs.Common.{◌≡◌, ℕ, ◌<◌, Bool, true, false, ◌⊎◌, List, [], ◌∷◌, ℤ, pos, ◌-ℤ◌, ◌*ℤ◌, ◌<ℤ◌, Some, None, Option, sym, refl, ap, ◌∙◌, subst, inl, inr, arith}
+use Rattle.std.proofs.Common.{◌≡◌, ℕ, ◌<◌, Bool, true, false, ◌⊎◌, List, [], ℤ, pos, ◌-ℤ◌, ◌*ℤ◌, ◌<ℤ◌, Some, None, Option, sym, refl, ap, ◌∙◌, subst, inl, inr, arith}
 use lib.IntN.{zero-*ℤ}
 use lib.Signed.{<ℤ_irrefl}
 use Rattle.std.proofs.lemmas.Int.{ints}
@@ -12,15 +12,14 @@ use Rattle.arith.proofs.Poly.{con, ◌:-◌, ◌:*◌}
 use Rattle.arith.proofs.Solve.{solve, ◌:=◌, ◌⟹◌}
 use Rattle.plane.specs.declared.types.Plane.{Plane}
 use Rattle.plane.specs.declared.types.Place.{Place}
-use Rattle.plane.specs.Limits.{FitsPlane}
-use Rattle.plane.specs.Planes.{height, on, along, turned, same_way}
+use Rattle.plane.specs.Planes.{on, along, turned, same_way}
 use Rattle.plane.proofs.Heights.{same-side}
 use Rattle.solid.specs.Shapes.{Has}
 use Rattle.solid.proofs.Members.{has_none, has_here, has_either}
 use Rattle.search.specs.declared.levels.Axis.{Axis}
 use Rattle.search.specs.declared.levels.Axis.TheVariants.{X, Y, Z}
 use Rattle.search.specs.Search.{Agree, Off, OffBut, OffAt, BySides, BySidesOn, BySidesAt, Found}
-use Rattle.search.specs.Levels.{Level, BaseLevel, AllLevel, slope_along, coordinate, number_along, base_along, middles, spots_by, spots, halved, Listed, Standing}
+use Rattle.search.specs.Levels.{Level, BaseLevel, AllLevel, slope_along, coordinate, number_along, base_along, middles, spots_by, spots, halved, Standing}
 use Rattle.search.proofs.Axes.{axis_of, rise, height-along, on-rise, rise-on, number_none, Only, number_only, only_turned, along_only, ways, same_way-along}
 use Rattle.search.proofs.Middles.{Between, Chosen, odd, choose}
 

@@ -1,9 +1,9 @@
 -- Places whose doubled coordinates stand in three lists.
-use Rattle.std.proofs.Common.{◌≡◌, ℕ, ◌<◌, Bool, true, false, List, map, length, get_or, ℤ, sym, refl, ap, ◌∙◌, subst, arith, w64, to_z}
+use Rattle.std.proofs.Common.{◌≡◌, ℕ, ◌<◌, Bool, false, List, length, get_or, ℤ, sym, refl, ap, ◌∙◌, w64, to_z}
 use Rattle.std.proofs.lemmas.List.{get_or_default}
 use Rattle.arith.specs.Bounds.{Short}
 use Rattle.plane.specs.declared.types.Place.{Place}
-use Rattle.solid.specs.Shapes.{At, Has}
+use Rattle.solid.specs.Shapes.{Has}
 use Rattle.solid.proofs.Members.{has_read, has_map, map_has}
 use Rattle.search.specs.Levels.{numbers, halved, spot_limit, AllShort, Listed}
 

@@ -121,11 +121,11 @@ fn first_of<Q: Question>(
     zs: &[u64],
     work: &mut [u64],
 ) -> Option<Place>
-    requires ready { ready question.now (length work.old) }
+    requires ready { Q.ready question.now (length work.old) }
     requires x { AllShort (numbers xs.now) }
     requires y { AllShort (numbers ys.now) }
     requires z { AllShort (numbers zs.now) }
-    ensures { Found (Listed (numbers xs.now) (numbers ys.now) (numbers zs.now)) (asked question.now) result }
+    ensures { Found (Listed (numbers xs.now) (numbers ys.now) (numbers zs.now)) (Q.asked question.now) result }
 {
     let mut found = None;
     'search: for x in xs {
@@ -150,11 +150,11 @@ fn walk<Q: Question>(
     lent: &mut [u64],
     work: &mut [u64],
 ) -> Option<Place>
-    requires ready { ready question.now (length work.old) }
+    requires ready { Q.ready question.now (length work.old) }
     requires base { BaseLevel base }
     requires level { AllLevel planes.now }
     requires room { lent_words (length planes.now) ≤ length lent.old }
-    ensures { Found (Standing base planes.now) (asked question.now) result }
+    ensures { Found (Standing base planes.now) (Q.asked question.now) result }
 {
     let each = planes.len() + 1;
     let (xs, rest) = lent.split_at_mut(each);
@@ -173,12 +173,12 @@ pub(crate) fn search<Q: Question>(
     lent: &mut [u64],
     work: &mut [u64],
 ) -> Option<Place>
-    requires ready { ready question.now (length work.old) }
+    requires ready { Q.ready question.now (length work.old) }
     requires base { BaseLevel base }
     requires level { AllLevel planes.now }
-    requires sides { BySidesAt base planes.now (asked question.now) }
+    requires sides { BySidesAt base planes.now (Q.asked question.now) }
     requires room { lent_words (length planes.now) ≤ length lent.old }
-    ensures { Found (OffAt base planes.now) (asked question.now) result }
+    ensures { Found (OffAt base planes.now) (Q.asked question.now) result }
 {
     walk(question, base, planes, lent, work)
 }

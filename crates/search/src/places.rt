@@ -32,11 +32,11 @@ pub fn find<Q: Question>(
     lent: &mut [u64],
     work: &mut [u64],
 ) -> Option<Place>
-    requires ready { ready question.now (length work.old) }
+    requires ready { Q.ready question.now (length work.old) }
     requires level { AllLevel planes.now }
-    requires sides { BySides planes.now (asked question.now) }
+    requires sides { BySides planes.now (Q.asked question.now) }
     requires room { lent_words (length planes.now) ≤ length lent.old }
-    ensures { Found (Off planes.now) (asked question.now) result }
+    ensures { Found (Off planes.now) (Q.asked question.now) result }
 {
     search(question, None, planes, lent, work)
 }
@@ -50,12 +50,12 @@ pub fn find_on<Q: Question>(
     lent: &mut [u64],
     work: &mut [u64],
 ) -> Option<Place>
-    requires ready { ready question.now (length work.old) }
+    requires ready { Q.ready question.now (length work.old) }
     requires base { (FitsPlane base) × (Level base) }
     requires level { AllLevel planes.now }
-    requires sides { BySidesOn planes.now base (asked question.now) }
+    requires sides { BySidesOn planes.now base (Q.asked question.now) }
     requires room { lent_words (length planes.now) ≤ length lent.old }
-    ensures { Found (OffBut planes.now base) (asked question.now) result }
+    ensures { Found (OffBut planes.now base) (Q.asked question.now) result }
 {
     search(question, Some(base), planes, lent, work)
 }

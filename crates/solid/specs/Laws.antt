@@ -1,11 +1,11 @@
 -- What holds of shapes and models as such. Each is a statement; functions of this crate have them in their contracts.
-use Rattle.std.specs.Prelude.{◌≡◌, ℕ, ◌<◌, Bool, true, false, List, []}
+use Rattle.std.specs.Prelude.{◌≡◌, ℕ, ◌<◌, false, []}
 use Rattle.plane.specs.declared.types.Plane.{Plane}
 use Rattle.plane.specs.declared.types.Place.{Place}
 use Rattle.plane.specs.declared.types.Shift.{Shift}
 use Rattle.plane.specs.Planes.{scaled}
 use Rattle.plane.specs.Moves.{moved_plane, moved_place, mirrored_plane, mirrored_place, swapped_plane, swapped_place, rolled_plane, rolled_place}
-use Rattle.solid.specs.Shapes.{Shape, holds, planes, with_planes, Clear}
+use Rattle.solid.specs.Shapes.{Shape, holds, with_planes, Clear}
 use Rattle.solid.specs.Models.{Model, Right}
 
 -- only a shape with nothing in it has a right model without pieces

@@ -1,7 +1,6 @@
 -- A shape as steps, each a word: what a stack machine does to find the shape's value, the operands first.
-use Rattle.std.specs.Prelude.{◌≡◌, ℕ, suc, ◌+◌, ◌-◌, ◌*◌, ◌/◌, ◌%◌, cond, List, [], ◌∷◌, ◌++◌, ℤ, pos, ◌+ℤ◌, ◌-ℤ◌, ◌==◌, unsigned_abs}
+use Rattle.std.specs.Prelude.{◌≡◌, ℕ, ◌+◌, ◌-◌, ◌*◌, ◌/◌, ◌%◌, cond, List, [], ◌∷◌, ◌++◌, ℤ, pos, ◌+ℤ◌, ◌-ℤ◌, ◌==◌, unsigned_abs}
 use Rattle.plane.specs.declared.types.Plane.{Plane}
-use Rattle.plane.specs.declared.types.Place.{Place}
 use Rattle.plane.specs.Limits.{slope_limit, offset_limit, FitsPlane}
 use Rattle.solid.specs.declared.types.Step.{Step}
 use Rattle.solid.specs.declared.types.Step.TheVariants.{Half, Both, Either, Without}

@@ -3,7 +3,7 @@ use Rattle.plane.specs.declared.types.Plane.{Plane}
 use Rattle.solid.specs.Stacks.{word_planes}
 use Rattle.pieces.proofs.Gathering.{one_plane, no_plane, no_more}
 use Rattle.pieces.proofs.gather.gather.Goals as goal
-use Rattle.pieces.proofs.gather.gather.Goals.{in-Half, in-default}
+use Rattle.pieces.proofs.gather.gather.Goals.{in-Half, in_default}
 
 pub loop-w-preserved : goal.loop-w-preserved
 loop-w-preserved c =
@@ -18,10 +18,10 @@ loop-w-preserved c =
             omega (arith, c.loop-w.invariant.0),
             one_plane ws ps c.loop-w.w-index c.loop-w.n c.loop-w-test.true all c.loop-w.invariant.1 w.in-Half.p c.step-of.result c.step-of.ensures w.in-Half.is room,
           )
-      | in-default w ↦
+      | in_default w ↦
           subst₂ P (sym w.n-is) (sym w.planes-is) (
             omega (arith, c.loop-w.invariant.0),
-            no_plane ws ps c.loop-w.w-index c.loop-w.n c.loop-w-test.true all c.loop-w.invariant.1 c.step-of.result c.step-of.ensures w.in-default.not-Half,
+            no_plane ws ps c.loop-w.w-index c.loop-w.n c.loop-w-test.true all c.loop-w.invariant.1 c.step-of.result c.step-of.ensures w.in_default.not-Half,
           )
     ]
 

@@ -13,7 +13,7 @@ use Rattle.reader.specs.Scan.{Looked, with_name}
 use Rattle.grammar.proofs.First.{starts_inside}
 use Rattle.reader.proofs.Checks.{Scanned, whole, turn-first, turn_skip, turn-next, turn_wrong, turn_done, turn-over, name_put, names_put, names_kept, taken_get_d}
 use Rattle.reader.proofs.check.check.Goals as goal
-use Rattle.reader.proofs.check.check.Goals.{then-at-read-via-then-at-read, then-at-read-via-else-at-read+then-read-at, in-AtNewName, in-default}
+use Rattle.reader.proofs.check.check.Goals.{then-at-read-via-then-at-read, then-at-read-via-else-at-read+then-read-at, in-AtNewName, in_default}
 
 pub token-at-word-requires : goal.token-at-word-requires
 token-at-word-requires c =
@@ -103,9 +103,9 @@ loop-k-preserved c =
             omega (arith, c.loop-k.invariant.1),
             length-set c.loop-k.names c.loop-k.parts p ∙ c.loop-k.invariant.2,
           )
-      | in-default w ↦
+      | in_default w ↦
           subst₃ P (sym w.names-is) (sym w.parts-is) (sym w.expect-is) (
-            turn c.loop-k.names c.loop-k.parts (names_kept c.loop-k.expect _ _ w.in-default.not-AtNewName) c.loop-k.invariant.0.inside,
+            turn c.loop-k.names c.loop-k.parts (names_kept c.loop-k.expect _ _ w.in_default.not-AtNewName) c.loop-k.invariant.0.inside,
             omega (arith, c.loop-k.invariant.1),
             c.loop-k.invariant.2,
           )

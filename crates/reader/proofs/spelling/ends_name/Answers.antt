@@ -9,7 +9,7 @@ returns-in-NameWord c =
     let f = c.sep-byte.ensures in
     simp (e, f)
 
-pub returns-in-default : goal.returns-in-default
-returns-in-default c =
-    let e = kind_no_name c.args.word.now (λ f. c.in-default.not-NameWord (c.word-kind.ensures ∙ f)) in
+pub returns-in_default : goal.returns-in_default
+returns-in_default c =
+    let e = kind_no_name c.args.word.now (λ f. c.in_default.not-NameWord (c.word-kind.ensures ∙ f)) in
     simp e

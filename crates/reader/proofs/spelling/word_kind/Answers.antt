@@ -2,13 +2,13 @@ use Rattle.reader.proofs.spelling.word_kind.Goals as goal
 use Rattle.std.proofs.Common.{◌≡◌, sym, ◌∙◌}
 use Rattle.reader.proofs.Words.{name_kind, good_utf8}
 
-pub returns-in-default : goal.returns-in-default
-returns-in-default c = absurd (c.in-default.ensures.cases.0 (good_utf8 c.args.word.now c.requires))
+pub returns-in_default : goal.returns-in_default
+returns-in_default c = absurd (c.in_default.ensures.cases.0 (good_utf8 c.args.word.now c.requires))
 
-pub returns-in-default-text : goal.returns-in-default-text
-returns-in-default-text c =
+pub returns-in_default-text : goal.returns-in_default-text
+returns-in_default-text c =
     let e : c.in-Ok.text.now ≡ c.args.word.now = c.in-Ok.ensures.cases.0 in
-    let n = c.in-default-text in
+    let n = c.in_default-text in
     sym
     (name_kind c.args.word.now c.requires (λ f. n.not-empty (e ∙ f)) (
       λ f. n.not-part (e ∙ f),

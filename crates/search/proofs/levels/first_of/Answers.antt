@@ -1,8 +1,8 @@
-use Rattle.std.proofs.Common.{◌≡◌, ℕ, ◌<◌, false, length, Option, sym, ap, ◌∙◌, subst, arith, below_more}
+use Rattle.std.proofs.Common.{ℕ, Option, sym, ap, ◌∙◌, subst, arith, below_more}
 use Rattle.plane.specs.declared.types.Place.{Place}
 use Rattle.search.specs.Search.{Found}
 use Rattle.search.specs.Levels.{numbers, Listed}
-use Rattle.search.proofs.Walks.{spot, short-at, spot-listed, listed-none}
+use Rattle.search.proofs.Walks.{short-at, spot-listed, listed-none}
 use Rattle.search.proofs.levels.first_of.Goals as goal
 
 pub place_of-q-requires : goal.place_of-q-requires

@@ -1,12 +1,12 @@
-use Rattle.std.proofs.Common.{◌≡◌, ℕ, ◌+◌, ◌<◌, ◌≤◌, List, [], ◌∷◌, ◌++◌, length, get_or, take, set, ℤ, pos, ◌+ℤ◌, ◌*ℤ◌, sym, ap, ◌∙◌, ap₂, arith, length-set, w64, to_z}
-use Rattle.std.proofs.lemmas.List.{take_all, append-nil}
+use Rattle.std.proofs.Common.{◌≡◌, ℕ, ◌<◌, List, [], ◌∷◌, length, take, ℤ, pos, ◌+ℤ◌, ◌*ℤ◌, sym, ap, ◌∙◌, ap₂, arith, length-set, w64, to_z}
+use Rattle.std.proofs.lemmas.List.{take_all}
 use Rattle.arith.proofs.Sized.{is_num, is_short}
 use Rattle.solid.proofs.Members.{has_read}
-use Rattle.search.specs.Levels.{numbers, middles, number_along, behind}
+use Rattle.search.specs.Levels.{numbers, middles}
 use Rattle.search.proofs.Axes.{number_short}
 use Rattle.search.proofs.Middles.{numbers-none, one_more, none_more}
 use Rattle.search.proofs.levels.write_middles.Goals as goal
-use Rattle.search.proofs.levels.write_middles.Goals.{in-Some, in-default}
+use Rattle.search.proofs.levels.write_middles.Goals.{in-Some, in_default}
 
 pub loop-p-init : goal.loop-p-init
 loop-p-init c = (omega arith, numbers-none c.args.out.now c.cast_unsigned.result (omega arith) ∙ ap (λ (w : ℕ). to_z w64 w ∷ []) c.cast_unsigned.ensures)
@@ -32,7 +32,7 @@ loop-p-preserved c =
                 ∙ one_more c.args.axis c.args.planes.now c.loop-p.p-index _ c.loop-p-test.true c.loop-p.out c.loop-p.n k c.loop-p.invariant.1
                 w.in-Some.v w.middle_behind.result (sym w.in-Some.ensures) (w.middle_behind.ensures ∙ ap (λ (v : ℤ). pos 2 *ℤ v +ℤ pos 1) b.same),
           )
-      | in-default w ↦ (
+      | in_default w ↦ (
         omega (arith, w.n-is),
         ap₂ (λ (n : ℕ) (ws : List ℕ). numbers (take n ws)) w.n-is w.out-is
             ∙ none_more c.args.axis c.args.planes.now c.loop-p.p-index _ c.loop-p-test.true c.loop-p.out c.loop-p.n k c.loop-p.invariant.1
