@@ -1,10 +1,10 @@
 -- The planes of two parts and of the workshop are level.
-use Rattle.std.proofs.Common.{◌≡◌, ℕ, ◌+◌, ◌-◌, ◌≤◌, ◌⊎◌, List, [], ◌∷◌, ◌++◌, take, nat_abs, sym, refl, ap, ◌∙◌, subst, inl, inr, arith, lit≤}
+use Rattle.std.proofs.Common.{◌≡◌, ℕ, ◌-◌, ◌≤◌, ◌⊎◌, List, [], ◌∷◌, ◌++◌, take, nat_abs, refl, ap, ◌∙◌, subst, inl, inr, arith, lit≤}
 use native.Mathlib.Nat.{sub-zero}
 use Rattle.std.specs.List.{AllByRecursion as All}
 use Rattle.plane.specs.declared.types.Plane.{Plane}
 use Rattle.plane.specs.Limits.{FitsPlane, offset_limit}
-use Rattle.solid.specs.Shapes.{Shape, Has, planes, solid, workshop, box, Fits}
+use Rattle.solid.specs.Shapes.{Has, planes, solid, workshop, box}
 use Rattle.solid.specs.Stacks.{shape_of}
 use Rattle.solid.proofs.Members.{has_none, has_either, has_part}
 use Rattle.search.specs.Levels.{Level, AllLevel}

@@ -1,6 +1,6 @@
 -- The shape that steps are of.
 use Rattle.std.proofs.Common.{◌≡◌, ℕ, List, sym, ap, ◌∙◌, subst}
-use Rattle.solid.specs.Shapes.{Shape, planes, Fits}
+use Rattle.solid.specs.Shapes.{planes, Fits}
 use Rattle.solid.specs.Steps.{Coded}
 use Rattle.solid.specs.Stacks.{shape_of, word_planes}
 use Rattle.solid.proofs.Sweep.{words-planes}

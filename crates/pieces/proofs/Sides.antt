@@ -2,7 +2,6 @@
 use Rattle.std.proofs.Common.{◌≡◌, cond, not, ◌&&◌, ◌⊎◌, ◌++◌, ap, ap₂, inl, inr}
 use Rattle.plane.specs.declared.types.Plane.{Plane}
 use Rattle.plane.specs.declared.types.Place.{Place}
-use Rattle.solid.specs.declared.types.Told.{Told}
 use Rattle.solid.specs.declared.types.Told.TheVariants.{In, Out, On}
 use Rattle.solid.specs.Shapes.{Shape, Has, planes, solid, workshop}
 use Rattle.solid.specs.Examples.{told}

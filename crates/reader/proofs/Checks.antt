@@ -1,14 +1,13 @@
 -- The scan of a text's words, turn by turn.
-use Rattle.std.proofs.Common.{◌≡◌, ℕ, zero, suc, ◌+◌, ◌-◌, ◌<◌, ◌≤◌, Bool, true, false, cond, leb, ◌≢◌, List, [], ◌∷◌, ◌++◌, map, length, get_or, take, drop, set, filter, sym, refl, ap, ◌∙◌, subst, append_assoc, append-nil, arith, get_or-set_other, get_or-set_same, below_more}
+use Rattle.std.proofs.Common.{◌≡◌, ℕ, ◌+◌, ◌-◌, ◌<◌, ◌≤◌, Bool, true, false, cond, leb, ◌≢◌, List, [], ◌∷◌, ◌++◌, map, length, get_or, take, drop, set, filter, sym, refl, ap, ◌∙◌, append_assoc, append-nil, arith, get_or-set_other, get_or-set_same, below_more}
 use native.Mathlib.Nat.{sub-zero}
 use Rattle.std.proofs.lemmas.List.{length-take, get_or-take, drop_more, drop_all, take_more_set, map-append}
 use Rattle.std.proofs.lemmas.Bool.{cond-true, cond-false}
 use Rattle.grammar.specs.Tokens.{tok_at, starts_from}
-use Rattle.grammar.specs.Faults.{Fault, Token, token, tokens, Role, scan, looked, word_faults}
+use Rattle.grammar.specs.Faults.{Fault, Token, token, Role, scan, looked, word_faults}
 use Rattle.reader.specs.declared.types.Expect.{Expect}
 use Rattle.reader.specs.declared.types.Expect.TheVariants.{AtLine, AtNewName, AtShape, InBox, AtUsedName, InPlace}
 use Rattle.reader.specs.declared.types.Refusal.{Refusal}
-use Rattle.reader.specs.declared.types.Look.{Look}
 use Rattle.reader.specs.declared.types.Look.TheVariants.{Wrong, Next, Done}
 use Rattle.reader.specs.Names.{words_at}
 use Rattle.reader.specs.Scan.{expected, with_name, named_in, Looked, told}

@@ -1,23 +1,22 @@
 -- From the grammar's word on bytes, and the words' faults, to what is told of a text.
-use Rattle.std.proofs.Common.{◌≡◌, ℕ, ◌+◌, ◌-◌, ◌<◌, ◌≤◌, min, Bool, true, false, ◌&&◌, eqb, ltb, ◌⊎◌, List, [], ◌∷◌, map, length, get_or, take, drop, Result, sym, refl, ap, ◌∙◌, subst, subst₂, inl, inr, arith, length-take, le-ltb}
+use Rattle.std.proofs.Common.{◌≡◌, ℕ, ◌-◌, ◌<◌, ◌≤◌, min, true, false, ◌&&◌, eqb, ltb, ◌⊎◌, List, [], length, get_or, take, Result, sym, refl, ap, ◌∙◌, subst, subst₂, inl, inr, arith, length-take, le-ltb}
 use native.Mathlib.Nat.{sub-zero}
-use Rattle.std.specs.List.{AllByRecursion as All}
 use Rattle.std.proofs.lemmas.List.{take_all, get_or-take}
 use Rattle.std.proofs.lemmas.Bool.{both_ways, cases_lt, cond-false, and_left}
-use Rattle.grammar.specs.Grammar.{Text, Refused, print, Line}
-use Rattle.grammar.specs.Tokens.{tok_at, starts_from, code_of}
-use Rattle.grammar.specs.Faults.{Fault, fault, word_faults, looked, most_bytes, Reaches, seen, FirstFault}
+use Rattle.grammar.specs.Grammar.{Text, Refused, Line}
+use Rattle.grammar.specs.Tokens.{starts_from}
+use Rattle.grammar.specs.Faults.{fault, word_faults, looked, most_bytes, Reaches, seen, FirstFault}
 use Rattle.grammar.specs.Meaning.{fine}
-use Rattle.grammar.proofs.First.{first_word, first_stuck, first_long, reach_text, reach_refused, one_reach, starts_inside}
-use Rattle.grammar.proofs.Fine.{fine_from, text_words, looked-all}
+use Rattle.grammar.proofs.First.{first_stuck, first_long, reach_text, reach_refused, one_reach, starts_inside}
+use Rattle.grammar.proofs.Fine.{fine_from, text_words}
 use Rattle.grammar.proofs.Laws.{not-both}
 use Rattle.grammar.proofs.Tokens.{text_code, placed}
 use Rattle.reader.specs.declared.types.Reach.{Reach}
 use Rattle.reader.specs.declared.types.Found.{Found}
 use Rattle.reader.specs.declared.types.Refusal.{Refusal}
 use Rattle.reader.specs.Names.{words_at}
-use Rattle.reader.specs.Layout.{Taken, part_names}
-use Rattle.reader.specs.Scan.{told, named_in}
+use Rattle.reader.specs.Layout.{Taken}
+use Rattle.reader.specs.Scan.{named_in}
 use Rattle.reader.specs.Reading.{Reached, Words}
 use Rattle.reader.proofs.Naming.{names_are}
 

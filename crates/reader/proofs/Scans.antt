@@ -1,8 +1,8 @@
 -- The scan of words, one word at a time.
-use Rattle.std.proofs.Common.{◌≡◌, ℕ, zero, suc, ◌+◌, ◌-◌, ◌<◌, ◌≤◌, Bool, true, false, cond, not, ◌&&◌, leb, List, [], ◌∷◌, ◌++◌, length, replicate, codes, sym, refl, ap, ◌∙◌, sub-one, arith, le-leb}
+use Rattle.std.proofs.Common.{◌≡◌, ℕ, zero, suc, ◌-◌, ◌<◌, ◌≤◌, Bool, true, false, not, ◌&&◌, leb, List, [], ◌∷◌, ◌++◌, length, replicate, codes, sym, ap, ◌∙◌, sub-one, arith, le-leb}
 use Rattle.std.proofs.lemmas.Bool.{cond-true, and_from}
 use Rattle.grammar.specs.Grammar.{same, one_of, is_name}
-use Rattle.grammar.specs.Faults.{Fault, fault, Token, Role, new_name, used_name, shape, measure, scale, of_part, of_place, of_box, scan, if_so, beyond, no_scale, most_parts}
+use Rattle.grammar.specs.Faults.{Fault, fault, Token, Role, shape, measure, scale, of_part, of_place, scan, if_so, beyond, no_scale, most_parts}
 
 -- a fault told, and none
 so_wrong : (b : Bool) (n : ℕ) (t : Token) (r : List Fault) → b ≡ true → if_so b n t ++ r ≡ fault n t.start ∷ r

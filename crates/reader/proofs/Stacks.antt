@@ -1,6 +1,5 @@
 -- One word more on the stack, and one less.
-use Rattle.std.proofs.Common.{◌≡◌, ℕ, zero, suc, pred, ◌+◌, ◌-◌, ◌<◌, ◌≤◌, ◌≢◌, List, [], ◌∷◌, length, get_or, set, sym, refl, ap, ◌∙◌, subst, add-one, sub-one, arith, get_or-set_other, get_or-set_same}
-use Rattle.grammar.specs.Machine.{Sym}
+use Rattle.std.proofs.Common.{◌≡◌, ℕ, zero, suc, ◌+◌, ◌-◌, ◌<◌, ◌≤◌, ◌≢◌, List, [], ◌∷◌, length, get_or, set, refl, add-one, arith, get_or-set_other, get_or-set_same}
 use Rattle.reader.specs.Stack.{stack_of, lift, want_of}
 
 pub stack_set : (st : List ℕ) (i v k : ℕ) (w : List ℕ) → k ≤ i → stack_of (set st i v) k w ≡ stack_of st k w

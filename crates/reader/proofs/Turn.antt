@@ -1,9 +1,9 @@
 -- One turn of the reader's loop.
 use Rattle.std.proofs.Common.{◌≡◌, ℕ, zero, suc, ◌+◌, ◌-◌, ◌*◌, ◌<◌, ◌≤◌, true, List, [], ◌∷◌, ◌++◌, length, get_or, take, drop, sym, refl, ap, ◌∙◌, subst, arith, length-drop, length-take}
-use mathlib.Core.Option.{Option, none, some}
+use mathlib.Core.Option.{none, some}
 use Rattle.std.proofs.lemmas.List.{take_more, get_or-drop, take_all}
 use Rattle.grammar.specs.Grammar.{is_word, Text, Refused}
-use Rattle.grammar.specs.Machine.{Sym, step, run, Good}
+use Rattle.grammar.specs.Machine.{step, run, Good}
 use Rattle.reader.specs.Stack.{stack_of}
 use Rattle.reader.specs.Reading.{between}
 use Rattle.grammar.proofs.Whole.{start, run_more, good_more, refused_here, refused_end, text_from_run, keep_run, SoundO}

@@ -1,7 +1,7 @@
 -- Words, as the code tells them.
-use Rattle.std.proofs.Common.{◌≡◌, ℕ, zero, suc, ◌+◌, ◌<◌, ◌≤◌, Bool, true, false, cond, not, ◌&&◌, ◌||◌, eqb, ltb, leb, ◌⊎◌, List, [], ◌∷◌, ◌++◌, length, get_or, codes, IsUtf8, IsAscii, sym, refl, ap, ◌∙◌, subst, inl, inr, arith, length-append}
+use Rattle.std.proofs.Common.{◌≡◌, ℕ, zero, suc, ◌+◌, ◌<◌, Bool, true, false, cond, ◌&&◌, eqb, ltb, leb, ◌⊎◌, List, [], ◌∷◌, ◌++◌, length, IsUtf8, IsAscii, sym, refl, ◌∙◌, subst, inl, inr, arith, length-append}
 use Rattle.std.proofs.lemmas.Str.{IsUtf8-from_ascii}
-use Rattle.std.proofs.lemmas.Bool.{both_ways, and_parts, and_from, or_cases, or_from, leb-true, leb-false, not_from_false, cases_Bool, le-leb, lt-leb, and_left, and_right, cond-true, cond-false}
+use Rattle.std.proofs.lemmas.Bool.{both_ways, and_parts, and_from, or_cases, or_from, leb-true, leb-false, not_from_false, cases_Bool, le-leb, lt-leb, cond-true, cond-false}
 use Rattle.grammar.specs.declared.types.Kind.{Kind}
 use Rattle.grammar.specs.declared.types.Kind.TheVariants.{NameWord}
 use Rattle.grammar.specs.Grammar.{is_word, is_name, alnum, letter, digit, all, same, one_of, reserved}

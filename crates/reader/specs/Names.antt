@@ -1,5 +1,5 @@
 -- Names as they lie in a text: each by its first byte.
-use Rattle.std.specs.Prelude.{ℕ, suc, Bool, true, false, cond, List, [], ◌∷◌, map, drop, Some, None, Option}
+use Rattle.std.specs.Prelude.{ℕ, suc, cond, List, [], ◌∷◌, map, drop, Some, None, Option}
 use Rattle.std.specs.Option.{option_map}
 use Rattle.grammar.specs.Grammar.{same}
 use Rattle.grammar.specs.Tokens.{tok_at}

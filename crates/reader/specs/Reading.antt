@@ -1,5 +1,5 @@
 -- What the reader says of a text.
-use Rattle.std.specs.Prelude.{◌≡◌, ℕ, ◌-◌, ◌<◌, ◌≤◌, true, false, List, [], ◌∷◌, length, take, Some, None, Ok, Err, Option, Result, slice_index, slice_range}
+use Rattle.std.specs.Prelude.{◌≡◌, ℕ, ◌<◌, ◌≤◌, true, false, List, [], ◌∷◌, length, take, Some, None, Ok, Err, Option, Result, slice_index, slice_range}
 use Rattle.grammar.specs.Grammar.{Text, Refused, Line, print}
 use Rattle.grammar.specs.Meaning.{fine}
 use Rattle.grammar.specs.Faults.{Fault, word_faults, looked, most_bytes, Reaches, FirstFault}

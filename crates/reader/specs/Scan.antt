@@ -1,8 +1,7 @@
 -- The words of a text, one after the other: what is expected, and what was found.
-use Rattle.std.specs.Prelude.{◌≡◌, ℕ, zero, suc, ◌+◌, ◌<◌, ◌≤◌, Bool, true, false, cond, List, [], ◌∷◌, ◌++◌, map, length, take, replicate, Ok, Err, codes, Result, slice_index}
+use Rattle.std.specs.Prelude.{◌≡◌, ℕ, ◌<◌, ◌≤◌, cond, List, [], ◌∷◌, ◌++◌, length, take, replicate, Ok, Err, codes, Result, slice_index}
 use Rattle.grammar.specs.Grammar.{same}
-use Rattle.grammar.specs.Tokens.{tok_at}
-use Rattle.grammar.specs.Faults.{Fault, fault, Token, token, tokens, Role, new_name, used_name, shape, measure, scale, of_part, of_place, of_box, scan, looked, word_faults}
+use Rattle.grammar.specs.Faults.{Fault, fault, Token, Role, new_name, used_name, shape, measure, scale, of_part, of_place, of_box, scan, looked, word_faults}
 use Rattle.reader.specs.declared.types.Refusal.{Refusal}
 use Rattle.reader.specs.declared.types.Refusal.TheVariants.{Grammar, Name, Limit, Range}
 use Rattle.reader.specs.declared.types.Expect.{Expect}

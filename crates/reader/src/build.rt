@@ -92,7 +92,7 @@ fn is_part(text: &[u8], from: u64) -> bool
     requires { from < length text.now }
     ensures { result ≡ same (codes "part") (tok_at (drop from text.now)) }
 {
-    token_at(text, from as usize) == b"part"
+    token_at(text, from as usize) == b"part".as_slice()
 }
 
 /// The i-th pair of words.

@@ -1,11 +1,10 @@
-use Rattle.std.proofs.Common.{◌≡◌, List, ◌++◌, length, take, sym, refl, ap, ◌∙◌}
+use Rattle.std.proofs.Common.{◌≡◌, length, refl, ap, ◌∙◌}
 use Rattle.std.proofs.lemmas.List.{take_at}
-use Rattle.plane.specs.declared.types.Plane.{Plane}
 use Rattle.solid.specs.Shapes.{planes, workshop, box}
 use Rattle.pieces.proofs.gather.put_walls.Goals as goal
 
 pub returns : goal.returns
 unfolding planes workshop box
 returns c =
-    let e : c.copy-from-slice.new.self ≡ planes workshop = cc in
-    record { count = refl; are = take_at c.copy-from-slice.new.self _ 6 (ap length e) ∙ e }
+    let e : c.copy_from_slice.new.self ≡ planes workshop = cc in
+    record { count = refl; are = take_at c.copy_from_slice.new.self _ 6 (ap length e) ∙ e }

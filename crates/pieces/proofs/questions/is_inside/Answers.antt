@@ -12,5 +12,5 @@ returns-in-In c =
 pub returns-in-Out : goal.returns-in-Out
 returns-in-Out c =
     let k = c.requires.shape in
-    let e : false ≡ is_in c.place-told.result = ⊎_elim (λ e. sym (ap is_in e)) (λ e. sym (ap is_in e)) c.in-Out.is in
-    e ∙ ap is_in (c.place-told.ensures k.shape k.fits k.is) ∙ ap (λ (s : Shape). inside s c.args.q) (sym (coded_shape c.args.steps.now k))
+    let e : false ≡ is_in c.place_told.result = ⊎_elim (λ e. sym (ap is_in e)) (λ e. sym (ap is_in e)) c.in-Out.is in
+    e ∙ ap is_in (c.place_told.ensures k.shape k.fits k.is) ∙ ap (λ (s : Shape). inside s c.args.q) (sym (coded_shape c.args.steps.now k))

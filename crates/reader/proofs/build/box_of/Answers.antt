@@ -35,8 +35,8 @@ sides text ps long b r0 r1 r2 r3 r4 r5 f0 f1 f2 f3 f4 f5 =
       z1 = number_read text ps 8 r5 b.z1 (omega arith) (word 8) n.z1 f5;
     }
 
-pub box-words-requires : goal.box-words-requires
-box-words-requires c =
+pub box_words-requires : goal.box_words-requires
+box_words-requires c =
     let s =
     sides c.args.text.now c.args.line.now c.requires.long c.requires.taken c.number-x0.result c.number-x1.result c.number-y0.result c.number-y1.result c.number-z0.result c.number-z1.result
     c.number-x0.ensures c.number-x1.ensures c.number-y0.ensures c.number-y1.ensures c.number-z0.ensures c.number-z1.ensures in

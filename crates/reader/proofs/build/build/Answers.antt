@@ -6,29 +6,29 @@ use Rattle.reader.proofs.build.build.Goals as goal
 pub loop-at-init : goal.loop-at-init
 loop-at-init c = starts _ _ _ _ _ _ c.requires.taken
 
-pub is-part-requires : goal.is-part-requires
-is-part-requires c =
+pub is_part-requires : goal.is_part-requires
+is_part-requires c =
     tail-inside c.args.text.now c.args.tokens.now c.loop-at.at c.requires.taken.inside 0 (omega (arith, tail-length c.loop-at.at c.args.tokens.now))
 
-pub part-line-requires : goal.part-line-requires
-part-line-requires c =
+pub part_line-requires : goal.part_line-requires
+part_line-requires c =
     let g = c.loop-at.invariant in
-    let l = part_room g c.loop-at-test.true c.if-is-part.ensures in
+    let l = part_room g c.loop-at-test.true c.if-is_part.ensures in
     let t = tail-length c.loop-at.at c.args.tokens.now in
     record {
       long = l;
       inside = tail-inside c.args.text.now c.args.tokens.now c.loop-at.at c.requires.taken.inside;
-      taken = part-there g c.loop-at-test.true c.if-is-part.ensures;
+      taken = part-there g c.loop-at-test.true c.if-is_part.ensures;
       spots_room = omega arith;
       steps_room = omega arith;
     }
 
-pub loop-at-preserved-then-is-part : goal.loop-at-preserved-then-is-part
-loop-at-preserved-then-is-part c = part_laid c.loop-at.invariant c.loop-at-test.true c.if-is-part.ensures _ _ c.part-line.ensures.spots c.part-line.ensures.steps
+pub loop-at-preserved-then-is_part : goal.loop-at-preserved-then-is_part
+loop-at-preserved-then-is_part c = part_laid c.loop-at.invariant c.loop-at-test.true c.if-is_part.ensures _ _ c.part_line.ensures.spots c.part_line.ensures.steps
 
-pub place-line-requires : goal.place-line-requires
-place-line-requires c =
-    let l = place_room c.loop-at.invariant c.loop-at-test.true c.if-is-part.ensures in
+pub place_line-requires : goal.place_line-requires
+place_line-requires c =
+    let l = place_room c.loop-at.invariant c.loop-at-test.true c.if-is_part.ensures in
     let t = tail-length c.loop-at.at c.args.tokens.now in
     record {
       long = l;
@@ -39,7 +39,7 @@ place-line-requires c =
     }
 
 pub loop-at-preserved : goal.loop-at-preserved
-loop-at-preserved c = place_laid c.loop-at.invariant c.loop-at-test.true c.if-is-part.ensures _ c.place-line.ensures
+loop-at-preserved c = place_laid c.loop-at.invariant c.loop-at-test.true c.if-is_part.ensures _ c.place_line.ensures
 
 pub returns : goal.returns
 returns c = ends c.loop-at.invariant c.loop-at-test.false (omega arith) (omega arith)

@@ -11,8 +11,8 @@ returns c =
       spots = pair_written c.args.spots.now (2 * c.args.parts) c.args.used 11 c.requires.spots_room;
       steps =
           λ p.
-          written c.args.used 11 _ c.args.steps.now c.copy-from-slice.new.self (words (box p.x0 p.x1 p.y0 p.y1 p.z0 p.z1))
-          (c.copy-from-slice.ensures.after ∙ c.box-of-words.ensures p)
+          written c.args.used 11 _ c.args.steps.now c.copy_from_slice.new.self (words (box p.x0 p.x1 p.y0 p.y1 p.z0 p.z1))
+          (c.copy_from_slice.ensures.after ∙ c.box_of-words.ensures p)
           (box-length p.x0 p.x1 p.y0 p.y1 p.z0 p.z1)
           c.requires.steps_room;
     }

@@ -28,12 +28,12 @@ returns c p =
     let pairs = pair_of (words_at text c.args.names.now) c.args.spots.now in
     let n = place-numbers p.x p.y p.z p.w p.sound in
     let word = λ (k : ℕ). ap (λ (ws : List (List ℕ)). get_or ws k []) p.read in
-    let name = c.token-at.ensures ∙ word_at text line 1 p.name.0 (omega arith) (word 1) in
-    let two : length c.spot-of-spot.result ≡ 2 = search rules in
-    let spot = pair_whole c.spot-of-spot.result two ∙ c.spot-of-spot.ensures ∙ ap pairs name in
-    let x = as_word text line 2 c.number-x.result p.x c.cast-unsigned.result (omega arith) (word 2) n.x c.number-x.ensures c.cast-unsigned.ensures in
-    let y = as_word text line 3 c.number-y.result p.y c.cast-unsigned-2.result (omega arith) (word 3) n.y c.number-y.ensures c.cast-unsigned-2.ensures in
-    let z = as_word text line 4 c.number-z.result p.z c.cast-unsigned-3.result (omega arith) (word 4) n.z c.number-z.ensures c.cast-unsigned-3.ensures in
-    let w = as_word text line 5 c.number-w.result p.w c.cast-unsigned-4.result (omega arith) (word 5) n.w_short c.number-w.ensures c.cast-unsigned-4.ensures ∙ ap (of_z w64) n.real in
-    let q = six c.spot-of-spot.result (pairs p.name.0) _ _ _ _ (of_z w64 p.x) (of_z w64 p.y) (of_z w64 p.z) (nat_abs p.w) spot x y z w in
-    written (6 * c.args.count) 6 _ c.args.asked.now c.copy-from-slice.new.self _ (c.copy-from-slice.ensures.after ∙ q) (sym (ap length q)) c.requires.asked_room
+    let name = c.token_at.ensures ∙ word_at text line 1 p.name.0 (omega arith) (word 1) in
+    let two : length c.spot_of-spot.result ≡ 2 = search rules in
+    let spot = pair_whole c.spot_of-spot.result two ∙ c.spot_of-spot.ensures ∙ ap pairs name in
+    let x = as_word text line 2 c.number-x.result p.x c.cast_unsigned.result (omega arith) (word 2) n.x c.number-x.ensures c.cast_unsigned.ensures in
+    let y = as_word text line 3 c.number-y.result p.y c.cast_unsigned-2.result (omega arith) (word 3) n.y c.number-y.ensures c.cast_unsigned-2.ensures in
+    let z = as_word text line 4 c.number-z.result p.z c.cast_unsigned-3.result (omega arith) (word 4) n.z c.number-z.ensures c.cast_unsigned-3.ensures in
+    let w = as_word text line 5 c.number-w.result p.w c.cast_unsigned-4.result (omega arith) (word 5) n.w_short c.number-w.ensures c.cast_unsigned-4.ensures ∙ ap (of_z w64) n.real in
+    let q = six c.spot_of-spot.result (pairs p.name.0) _ _ _ _ (of_z w64 p.x) (of_z w64 p.y) (of_z w64 p.z) (nat_abs p.w) spot x y z w in
+    written (6 * c.args.count) 6 _ c.args.asked.now c.copy_from_slice.new.self _ (c.copy_from_slice.ensures.after ∙ q) (sym (ap length q)) c.requires.asked_room

@@ -1,11 +1,10 @@
-use Rattle.std.proofs.Common.{◌≡◌, ℕ, ◌+◌, ◌-◌, ◌<◌, ◌≤◌, true, false, leb, List, length, get_or, take, drop, set, sym, refl, ap, ◌∙◌, subst, subst₂, arith, length-set, rules, le-leb}
+use Rattle.std.proofs.Common.{◌≡◌, ℕ, ◌+◌, ◌-◌, ◌<◌, ◌≤◌, true, false, leb, List, length, get_or, take, drop, set, sym, refl, ap, ◌∙◌, subst₂, arith, length-set, le-leb}
 use borrow.Author.Tests.{lt-leb}
 use native.Mathlib.Nat.{sub-zero}
 use mathlib.Core.Path.{subst₃}
-use Rattle.grammar.specs.Faults.{Token, token}
+use Rattle.grammar.specs.Faults.{token}
 use Rattle.grammar.specs.Tokens.{tok_at}
 use Rattle.reader.specs.declared.types.Expect.{Expect}
-use Rattle.reader.specs.declared.types.Expect.TheVariants.{AtNewName}
 use Rattle.reader.specs.declared.types.Look.{Look}
 use Rattle.reader.specs.declared.types.Look.TheVariants.{Wrong, Next, Done}
 use Rattle.reader.specs.Names.{words_at}
@@ -15,8 +14,8 @@ use Rattle.reader.proofs.Checks.{Scanned, whole, turn-first, turn_skip, turn-nex
 use Rattle.reader.proofs.check.check.Goals as goal
 use Rattle.reader.proofs.check.check.Goals.{then-at-read-via-then-at-read, then-at-read-via-else-at-read+then-read-at, in-AtNewName, in_default}
 
-pub token-at-word-requires : goal.token-at-word-requires
-token-at-word-requires c =
+pub token_at-word-requires : goal.token_at-word-requires
+token_at-word-requires c =
     let h = starts_inside c.args.text.now c.args.tokens.now c.loop-k.k c.requires.tokens c.loop-k-test.true in omega arith
 
 pub loop-k-init : goal.loop-k-init
@@ -30,7 +29,7 @@ pub loop-k-preserved-then-at-read : goal.loop-k-preserved-then-at-read
 loop-k-preserved-then-at-read c =
     let bs = c.args.text.now in
     let p = get_or c.args.tokens.now c.loop-k.k 0 in
-    let n : length c.token-at-word.result.now ≡ length (tok_at (drop p bs)) = ap length c.token-at-word.ensures in
+    let n : length c.token_at-word.result.now ≡ length (tok_at (drop p bs)) = ap length c.token_at-word.ensures in
     let e : whole c.args.read (token p (tok_at (drop p bs))) ≡ false =
     elim c.then-at-read.branch [
       | then-at-read-via-then-at-read w ↦ (unread p c.args.read _ _ n).0 w.if-at-read.true
@@ -55,27 +54,27 @@ pub returns-in-Wrong : goal.returns-in-Wrong
 returns-in-Wrong c =
     let bs = c.args.text.now in
     let p = get_or c.args.tokens.now c.loop-k.k 0 in
-    let g = read_whole p c.args.read _ _ (ap length c.token-at-word.ensures) c.if-at-read.false c.if-read-at.false in
-    let l = said bs c.loop-k.names c.token-at-word.result.now c.loop-k.parts p c.loop-k.expect (Wrong c.in-Wrong.r) c.token-at-word.ensures c.in-Wrong.ensures in
+    let g = read_whole p c.args.read _ _ (ap length c.token_at-word.ensures) c.if-at-read.false c.if-read-at.false in
+    let l = said bs c.loop-k.names c.token_at-word.result.now c.loop-k.parts p c.loop-k.expect (Wrong c.in-Wrong.r) c.token_at-word.ensures c.in-Wrong.ensures in
     turn_wrong bs c.args.read c.loop-k.names c.loop-k.parts c.loop-k.expect c.args.tokens.now c.loop-k.k c.loop-k-test.true c.loop-k.invariant.0 c.in-Wrong.r g l
 
 pub returns-in-Done : goal.returns-in-Done
 returns-in-Done c =
     let bs = c.args.text.now in
     let p = get_or c.args.tokens.now c.loop-k.k 0 in
-    let g = read_whole p c.args.read _ _ (ap length c.token-at-word.ensures) c.if-at-read.false c.if-read-at.false in
-    let l = said bs c.loop-k.names c.token-at-word.result.now c.loop-k.parts p c.loop-k.expect Done c.token-at-word.ensures c.in-Done.ensures in
+    let g = read_whole p c.args.read _ _ (ap length c.token_at-word.ensures) c.if-at-read.false c.if-read-at.false in
+    let l = said bs c.loop-k.names c.token_at-word.result.now c.loop-k.parts p c.loop-k.expect Done c.token_at-word.ensures c.in-Done.ensures in
     let d = turn_done bs c.args.read c.loop-k.names c.loop-k.parts c.loop-k.expect c.args.tokens.now c.loop-k.k c.loop-k-test.true c.loop-k.invariant.0 g l in
     (d.0, omega (arith, c.loop-k.invariant.1, c.loop-k.invariant.2), d.1, c.loop-k.invariant.0.inside)
 
-pub shape-of-names-in-Wrong : goal.shape-of-names-in-Wrong
-shape-of-names-in-Wrong c = c.loop-k.invariant.2
+pub shape_of-names-in-Wrong : goal.shape_of-names-in-Wrong
+shape_of-names-in-Wrong c = c.loop-k.invariant.2
 
-pub shape-of-names-in-Done : goal.shape-of-names-in-Done
-shape-of-names-in-Done c = c.loop-k.invariant.2
+pub shape_of-names-in-Done : goal.shape_of-names-in-Done
+shape_of-names-in-Done c = c.loop-k.invariant.2
 
-pub shape-of-names : goal.shape-of-names
-shape-of-names c = c.loop-k.invariant.2
+pub shape_of-names : goal.shape_of-names
+shape_of-names c = c.loop-k.invariant.2
 
 pub bounds-names-parts : goal.bounds-names-parts
 bounds-names-parts c = omega (arith, c.loop-k.invariant.1, c.loop-k.invariant.2)
@@ -84,8 +83,8 @@ pub loop-k-preserved : goal.loop-k-preserved
 loop-k-preserved c =
     let bs = c.args.text.now in
     let p = get_or c.args.tokens.now c.loop-k.k 0 in
-    let g = read_whole p c.args.read _ _ (ap length c.token-at-word.ensures) c.if-at-read.false c.if-read-at.false in
-    let l = said bs c.loop-k.names c.token-at-word.result.now c.loop-k.parts p c.loop-k.expect (Next c.in-Next.next) c.token-at-word.ensures c.in-Next.ensures in
+    let g = read_whole p c.args.read _ _ (ap length c.token_at-word.ensures) c.if-at-read.false c.if-read-at.false in
+    let l = said bs c.loop-k.names c.token_at-word.result.now c.loop-k.parts p c.loop-k.expect (Next c.in-Next.next) c.token_at-word.ensures c.in-Next.ensures in
     let room : c.loop-k.parts < length c.loop-k.names = omega (arith, c.loop-k.invariant.1, c.loop-k.invariant.2) in
     let P : List ℕ → ℕ → Expect → Type 0 = λ ns n e.
     Scanned bs c.args.read ns n e (drop (c.loop-k.k + 1) c.args.tokens.now) × (n ≤ c.loop-k.k + 1) × (length ns ≡ length c.args.names.now) in

@@ -6,4 +6,4 @@ pub returns-in-NameWord : goal.returns-in-NameWord
 returns-in-NameWord c = sym (kind_is_name c.args.word.now c.in-NameWord.ensures)
 
 pub returns-in_default : goal.returns-in_default
-returns-in_default c = sym (kind_no_name c.args.word.now (λ f. c.in_default.not-NameWord (c.word-kind.ensures ∙ f)))
+returns-in_default c = sym (kind_no_name c.args.word.now (λ f. c.in_default.not-NameWord (c.word_kind.ensures ∙ f)))

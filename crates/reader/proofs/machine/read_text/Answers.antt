@@ -1,4 +1,4 @@
-use Rattle.std.proofs.Common.{◌≡◌, ℕ, ◌+◌, ◌*◌, ◌<◌, ◌≤◌, List, [], length, take, sym, ap, subst, subst₂, arith}
+use Rattle.std.proofs.Common.{◌≡◌, ℕ, ◌+◌, ◌*◌, ◌≤◌, [], length, take, sym, subst₂, arith}
 use mathlib.Core.Option.{some}
 use Rattle.grammar.specs.Machine.{run, Good}
 use Rattle.reader.specs.Stack.{stack_of}

@@ -15,7 +15,7 @@ returns-in_default-text c =
       (
         λ f. n.not-place (e ∙ f),
         (
-          λ f. n.not_same (e ∙ f),
+          λ f. n.not-same (e ∙ f),
           (
             λ f. n.not-meet (e ∙ f),
             (
@@ -31,7 +31,7 @@ returns-in_default-text c =
                       (
                         λ f. n.not-without (e ∙ f),
                         (
-                          λ f. n.not-Move (e ∙ f),
+                          λ f. n.not-move (e ∙ f),
                           (
                             λ f. n.not-mirror (e ∙ f),
                             (

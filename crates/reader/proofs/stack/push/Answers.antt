@@ -1,4 +1,4 @@
-use Rattle.std.proofs.Common.{◌≡◌, List, [], ◌∷◌, refl, ap, ◌∙◌}
+use Rattle.std.proofs.Common.{[], ◌∷◌, refl, ap, ◌∙◌}
 use Rattle.reader.proofs.stack.push.Goals as goal
 use Rattle.reader.proofs.Stacks.{stack_push}
 use Rattle.reader.specs.Stack.{lift, stack_of}

@@ -1,4 +1,4 @@
-use Rattle.std.proofs.Common.{◌≡◌, ◌-◌, List, [], ◌∷◌, sym, ap, ◌∙◌}
+use Rattle.std.proofs.Common.{◌-◌, [], ◌∷◌, sym, ap, ◌∙◌}
 use Rattle.reader.proofs.stack.top.Goals as goal
 use Rattle.reader.proofs.Stacks.{stack_top}
 use Rattle.reader.specs.Stack.{lift, stack_of}

@@ -1,4 +1,4 @@
-use Rattle.std.proofs.Common.{◌≡◌, ◌≤◌, length, drop}
+use Rattle.std.proofs.Common.{◌≡◌, ◌≤◌, drop}
 use Rattle.grammar.specs.Values.{read_on}
 use Rattle.reader.proofs.tokens.magnitude.Given as goal
 

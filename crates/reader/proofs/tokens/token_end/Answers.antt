@@ -4,8 +4,8 @@ use Rattle.grammar.specs.Tokens.{in_tok, tok_at}
 use Rattle.reader.proofs.Spans.{token_stops, token-ends, token_more, token_done}
 use Rattle.reader.proofs.tokens.token_end.Goals as goal
 
-pub returns-then-not-in-token : goal.returns-then-not-in-token
-returns-then-not-in-token c =
+pub returns-then-not-in_token : goal.returns-then-not-in_token
+returns-then-not-in_token c =
     let e : in_tok (get_or c.args.text.now c.loop-i.i 0) ≡ false = search rules in
     record {
       low = omega arith;

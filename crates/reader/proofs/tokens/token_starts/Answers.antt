@@ -1,4 +1,4 @@
-use Rattle.std.proofs.Common.{◌≡◌, ℕ, ◌+◌, ◌<◌, ◌≤◌, Bool, true, false, not, ◌&&◌, ◌⊎◌, List, [], ◌∷◌, ◌++◌, length, get_or, take, drop, set, sym, ap, ◌∙◌, subst, inl, inr, arith, length-set}
+use Rattle.std.proofs.Common.{◌≡◌, ℕ, ◌+◌, ◌<◌, ◌≤◌, Bool, true, false, not, ◌&&◌, List, ◌++◌, length, get_or, take, drop, sym, ap, ◌∙◌, arith, length-set}
 use mathlib.Core.Path.{subst₃}
 use Rattle.std.proofs.lemmas.List.{take_more_set}
 use Rattle.std.proofs.lemmas.Bool.{and_from, and_left, and_right}
@@ -16,7 +16,7 @@ loop-i-preserved c =
     let t = c.loop-i.inside in
     let h = c.loop-i-test.true in
     let inv = c.loop-i.invariant.0 in
-    let r = c.in-token-token.ensures in
+    let r = c.in_token-token.ensures in
     let P : ℕ → List ℕ → Bool → Type 0 =
     λ k s u. (take k s ++ starts_from u (i + 1) (drop (i + 1) bs) ≡ starts_from false 0 bs) × (k ≤ length s) × (k ≤ i + 1) in
     elim c.if-token.branch [
