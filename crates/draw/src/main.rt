@@ -7,13 +7,8 @@ use modeller::drawing::Drawing;
 use modeller::types::{Refused, Reply};
 use solid::types::Told;
 use std::io::Read;
+use std::process::ExitCode;
 use std::{env, fs};
-
-/// How a run ends that tells no answers.
-enum Ended {
-    Refused,
-    Failed,
-}
 
 /// The text: the file that is named, or standard input.
 fn text_of(rt: &HostRuntime) -> anyhow::Result<Vec<u8>> {
@@ -72,13 +67,13 @@ fn run(rt: &HostRuntime) -> anyhow::Result<bool> {
     Ok(true)
 }
 
-fn main(rt: HostRuntime) -> Result<(), Ended> {
+fn main(rt: HostRuntime) -> ExitCode {
     match run(&rt) {
-        Ok(true) => Ok(()),
-        Ok(false) => Err(Ended::Refused),
+        Ok(true) => ExitCode::SUCCESS,
+        Ok(false) => ExitCode::FAILURE,
         Err(error) => {
             let _ = rt.eprintln(&error);
-            Err(Ended::Failed)
+            ExitCode::FAILURE
         }
     }
 }

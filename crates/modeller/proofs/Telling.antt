@@ -1,5 +1,5 @@
 -- From what a drawing holds to what is told of it.
-use Rattle.std.proofs.Common.{◌≡◌, ℕ, ◌+◌, ◌*◌, ◌<◌, ◌≤◌, Bool, true, List, [], length, get_or, take, drop, ℤ, sym, refl, ap, ◌∙◌, subst, arith, to_z-of_z, w64, SFits, to_z, of_z}
+use Rattle.std.proofs.Common.{◌≡◌, ℕ, ◌+◌, ◌*◌, ◌<◌, ◌≤◌, true, List, [], length, get_or, take, drop, ℤ, sym, refl, ap, ◌∙◌, subst, arith, to_z-of_z, w64, to_z, of_z}
 use mathlib.Core.Bool.{Bool-discrete}
 use mathlib.Core.Logic.{∥∥₁_elim}
 use mathlib.Core.HLevel.{hedberg}
@@ -10,11 +10,11 @@ use Rattle.arith.proofs.Sized.{short_fits}
 use Rattle.plane.specs.declared.types.Place.{Place}
 use Rattle.plane.specs.Limits.{SmallPlace, coordinate_limit}
 use Rattle.solid.specs.Shapes.{Shape, Fits}
-use Rattle.solid.specs.Steps.{words, Coded}
+use Rattle.solid.specs.Steps.{words}
 use Rattle.solid.proofs.Unique.{words_set, short_prop, coded_prop}
 use Rattle.solid.proofs.Values.{words-length}
 use Rattle.grammar.specs.Grammar.{Line, print}
-use Rattle.grammar.specs.Meaning.{fine, questions, Question, where_is, model_of, nothing}
+use Rattle.grammar.specs.Meaning.{fine, questions, Question, model_of, nothing}
 use Rattle.grammar.proofs.Once.{once}
 use Rattle.reader.specs.declared.types.Counts.{Counts}
 use Rattle.reader.specs.Layout.{Laid}

@@ -3,7 +3,6 @@ use Rattle.std.specs.Prelude.{◌≡◌, ℕ, ◌+◌, ◌*◌, ◌<◌, ◌≤�
 use Rattle.grammar.specs.Grammar.{Line, print}
 use Rattle.grammar.specs.Meaning.{fine, questions}
 use Rattle.grammar.specs.Faults.{Fault, fault, FirstFault}
-use Rattle.reader.specs.declared.types.Counts.{Counts}
 use Rattle.reader.specs.Layout.{Laid}
 use Rattle.reader.specs.Scan.{told}
 use Rattle.modeller.specs.declared.types.Refused.{Refused}

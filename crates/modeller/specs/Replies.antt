@@ -5,11 +5,10 @@ use Rattle.std.proofs.Common.{to_z}
 use Rattle.plane.specs.declared.types.Place.{Place as Spot}
 use Rattle.plane.specs.Limits.{SmallPlace}
 use Rattle.solid.specs.Steps.{Coded}
-use Rattle.solid.specs.Shapes.{Shape, most_planes}
+use Rattle.solid.specs.Shapes.{most_planes}
 use Rattle.solid.specs.Examples.{told}
 use Rattle.grammar.specs.Grammar.{Line, print}
 use Rattle.grammar.specs.Meaning.{Question, where_is, are_same, do_meet, model_of, questions}
-use Rattle.reader.specs.declared.types.Counts.{Counts}
 use Rattle.modeller.specs.declared.types.State.{State}
 use Rattle.modeller.specs.declared.types.State.TheVariants.{Taken, Refused as No}
 use Rattle.modeller.specs.declared.types.Refused.{Refused}
