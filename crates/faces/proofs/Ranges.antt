@@ -2,7 +2,7 @@
 use Rattle.std.proofs.Common.{◌≡◌, ◌+◌, eqb, ℤ, ◌+ℤ◌, nat_abs, refl, ap, arith, lit<, lit≤}
 use Rattle.std.proofs.lemmas.Int.{ints}
 use Rattle.std.proofs.lemmas.Bool.{eqb-true}
-use Rattle.std.specs.List.{AllByRecursion as All}
+use Rattle.std.specs.List.{AllByRecursion}
 use Rattle.std.proofs.ByRecursion.{All-map, All-weaker}
 use Rattle.arith.specs.Bounds.{Short}
 use Rattle.arith.proofs.Sized.{is_self, is_add, is_short, short_more, short_neg}
@@ -54,7 +54,7 @@ module _ (b : Block) (f : FitsBlock b) where
   wall_fits : (e : Way) → FitsPlane (toward e (top b e))
   wall_fits e = level (normal e).a (normal e).b (normal e).c (top b e) (unit e) (top-short e)
 
-  pub piece_fits : All FitsPlane (block_piece b).planes
+  pub piece_fits : AllByRecursion FitsPlane (block_piece b).planes
   unfolding block_piece planes box
   piece_fits = (wall_fits east, (wall_fits west, (wall_fits north, (wall_fits south, (wall_fits up, (wall_fits down, tt))))))
 

@@ -1,7 +1,7 @@
 -- Blocks: what of a box lies in the workshop, and the model of that.
 use Rattle.std.specs.Prelude.{Bool, cond, ◌&&◌, List, [], ◌∷◌, map, ℤ, pos, ◌+ℤ◌, neg_ℤ, ◌≤ℤ◌, ◌<ℤ◌, Some, None, Option, int_lt}
 use Rattle.std.specs.Int.{int_max, int_min}
-use Rattle.std.specs.List.{AllByRecursion as All}
+use Rattle.std.specs.List.{AllByRecursion}
 use Rattle.plane.specs.declared.types.Place.{Place}
 use Rattle.plane.specs.Limits.{reach, FitsPlane, SmallPlace}
 use Rattle.plane.specs.Moves.{rolled_plane, rolled_place}
@@ -102,9 +102,9 @@ pub record FitsBlock (b : Block) : Type 0 where
 -- a face whose numbers are all in range
 pub record FitsFace (f : Face) : Type 0 where
   pub plane : FitsPlane f.plane
-  pub edges : All FitsPlane f.edges
+  pub edges : AllByRecursion FitsPlane f.edges
   pub place : SmallPlace f.place
-  pub corners : All SmallPlace f.corners
+  pub corners : AllByRecursion SmallPlace f.corners
 
 -- a face as the code has it
 abbrev pub as_face : Rectangle → Face

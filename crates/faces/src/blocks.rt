@@ -1,7 +1,7 @@
 //! What of a box lies in the workshop: a block, and the piece that it is.
 
 ghost use Rattle.std.specs.Prelude.{◌≡◌, IfSome};
-ghost use Rattle.std.specs.List.{AllByRecursion as All};
+ghost use Rattle.std.specs.List.{AllByRecursion};
 ghost use Rattle.plane.specs.Limits.{FitsPlane, SmallPlace};
 ghost use Rattle.solid.specs.Shapes.{box, solid};
 ghost use Rattle.solid.specs.Models.{Right};
@@ -63,7 +63,7 @@ pub fn block_of(x0: i64, x1: i64, y0: i64, y1: i64, z0: i64, z1: i64) -> Option<
 pub fn walls(b: Block) -> [Plane; 6]
     requires { FitsBlock b }
     ensures value { result ≡ (block_piece b).planes }
-    ensures fits { All FitsPlane result }
+    ensures fits { AllByRecursion FitsPlane result }
 {
     [
         Plane {

@@ -2,7 +2,7 @@
 //! from x to y to z to x.
 
 ghost use Rattle.std.specs.Prelude.{◌≡◌, ◌<◌, map};
-ghost use Rattle.std.specs.List.{AllByRecursion as All};
+ghost use Rattle.std.specs.List.{AllByRecursion};
 ghost use Rattle.arith.specs.Bounds.{Short};
 ghost use Rattle.plane.specs.Limits.{reach, FitsPlane};
 ghost use Rattle.plane.specs.Moves.{rolled_plane, rolled_place};
@@ -92,7 +92,7 @@ fn turned_place(q: Place) -> Place
 
 /// Four planes turned so.
 fn turned_planes(ps: [Plane; 4]) -> [Plane; 4]
-    requires { All FitsPlane ps }
+    requires { AllByRecursion FitsPlane ps }
     ensures { result ≡ map rolled_plane ps }
 {
     let [i, j, k, l] = ps;

@@ -1,7 +1,7 @@
 -- The words of lines have no fault exactly if the lines are fine.
 use Rattle.std.proofs.Common.{◌≡◌, ℕ, suc, ◌+◌, ◌<◌, ◌≤◌, Bool, true, false, cond, not, ◌&&◌, ◌||◌, T, eqb, ltb, leb, List, [], ◌∷◌, ◌++◌, map, length, drop, ℤ, pos, negsuc, nat_abs, codes, filter, sym, refl, ap, ◌∙◌, subst, ap₂, arith, ltb→lt, length-drop, ltb-false, ltb-true, eqb-true, le-leb}
 use borrow.Author.Tests.{lt-leb, eqb-false}
-use Rattle.std.specs.List.{AllByRecursion as All}
+use Rattle.std.specs.List.{AllByRecursion}
 use Rattle.std.proofs.ByRecursion.{All-map, All-weaker}
 use Rattle.std.proofs.lemmas.Bool.{both_ways, and_from, and_right, cond-true}
 use Rattle.grammar.specs.Grammar.{Expr, half, box, two, move, one, called, both, either, without, mirror, swap, turn, Name, Line, part, place, same_as, meet, model, same, one_of, is_name, print, signed, decimal}
@@ -201,7 +201,7 @@ tok_short (b ∷ xs) = go (in_tok b) (tok_short xs)
     go true h = omega arith
     go false h = omega arith
 
-kept_all : {X : Type 0} (f : X → Bool) (xs : List X) → All (λ x. f x ≡ true) xs → filter f xs ≡ xs
+kept_all : {X : Type 0} (f : X → Bool) (xs : List X) → AllByRecursion (λ x. f x ≡ true) xs → filter f xs ≡ xs
 kept_all f [] a = refl
 kept_all f (x ∷ xs) a = cond-true (f x) _ _ a.0 ∙ ap (λ (l : List _). x ∷ l) (kept_all f xs a.1)
 

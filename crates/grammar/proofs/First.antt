@@ -1,6 +1,6 @@
 -- Which fault of a text comes first.
 use Rattle.std.proofs.Common.{◌≡◌, ℕ, suc, ◌+◌, ◌-◌, ◌<◌, ◌≤◌, Bool, true, false, cond, not, ◌&&◌, eqb, ltb, leb, ◌⊎◌, List, [], ◌∷◌, ◌++◌, length, get_or, take, drop, codes, filter, sym, refl, ap, ◌∙◌, subst, inl, inr, append-nil, arith, length-take, le-ltb}
-use Rattle.std.specs.List.{ContainsAt as Has, AllByRecursion as All}
+use Rattle.std.specs.List.{ContainsAt, AllByRecursion}
 use Rattle.std.proofs.ByRecursion.{All-append, All-weaker, All-get_or, All-map, all-has}
 use Rattle.std.proofs.lemmas.Bool.{cases_order, cond-false, and_left}
 use Rattle.std.proofs.lemmas.List.{take_all}
@@ -11,39 +11,39 @@ use Rattle.grammar.proofs.Spacing.{Ascends, ascends_all, word_faults_ascend}
 use Rattle.grammar.proofs.Laws.{one_place, not-both, shorter}
 
 -- a word begins within the bytes
-starts_below : (t : Bool) (i : ℕ) (ys : List ℕ) → All (λ p. p < i + length ys) (starts_from t i ys)
+starts_below : (t : Bool) (i : ℕ) (ys : List ℕ) → AllByRecursion (λ p. p < i + length ys) (starts_from t i ys)
 starts_below t i [] = tt
 starts_below t i (b ∷ ys) =
     All-append (λ p. p < i + length (b ∷ ys)) (once_if (not t && in_tok b) i) (starts_from (in_tok b) (suc i) ys) (one (not t && in_tok b))
     (All-weaker (λ p. p < suc i + length ys) (λ p. p < i + length (b ∷ ys)) (λ p h. omega arith) (starts_from (in_tok b) (suc i) ys) (starts_below (in_tok b) (suc i) ys))
   where
-    one : (u : Bool) → All (λ p. p < i + length (b ∷ ys)) (once_if u i)
+    one : (u : Bool) → AllByRecursion (λ p. p < i + length (b ∷ ys)) (once_if u i)
     one true = (omega arith, tt)
     one false = tt
 
-pub all-inside : (bs : List ℕ) → All (λ p. p < length bs) (starts_from false 0 bs)
+pub all-inside : (bs : List ℕ) → AllByRecursion (λ p. p < length bs) (starts_from false 0 bs)
 all-inside bs = All-weaker (λ p. p < 0 + length bs) (λ p. p < length bs) (λ p h. omega arith) (starts_from false 0 bs) (starts_below false 0 bs)
 
 pub starts_inside : (bs ps : List ℕ) (k : ℕ) → ps ≡ starts_from false 0 bs → k < length ps → get_or ps k 0 < length bs
-starts_inside bs ps k e h = All-get_or (λ p. p < length bs) ps k 0 h (subst (λ (l : List ℕ). All (λ p. p < length bs) l) (sym e) (all-inside bs))
+starts_inside bs ps k e h = All-get_or (λ p. p < length bs) ps k 0 h (subst (λ (l : List ℕ). AllByRecursion (λ p. p < length bs) l) (sym e) (all-inside bs))
 
 -- a fault is told where a word begins
 module _ (P : ℕ → Type 0) where
-  so_place : (b : Bool) (k : ℕ) (t : Token) (fs : List Fault) → P t.start → All (λ f. P f.place) fs → All (λ f. P f.place) (if_so b k t ++ fs)
+  so_place : (b : Bool) (k : ℕ) (t : Token) (fs : List Fault) → P t.start → AllByRecursion (λ f. P f.place) fs → AllByRecursion (λ f. P f.place) (if_so b k t ++ fs)
   so_place true k t fs h a = (h, a)
   so_place false k t fs h a = a
 
-  lone : (b : Bool) (k : ℕ) (t : Token) → P t.start → All (λ f. P f.place) (if_so b k t)
+  lone : (b : Bool) (k : ℕ) (t : Token) → P t.start → AllByRecursion (λ f. P f.place) (if_so b k t)
   lone true k t h = (h, tt)
   lone false k t h = tt
 
-  scan_places : (names : List (List ℕ)) (rs : List Role) (ts : List Token) → All (λ t. P t.start) ts → All (λ f. P f.place) (scan names rs ts)
+  scan_places : (names : List (List ℕ)) (rs : List Role) (ts : List Token) → AllByRecursion (λ t. P t.start) ts → AllByRecursion (λ f. P f.place) (scan names rs ts)
   scan_places names [] [] s = tt
   scan_places names (r ∷ rs) [] s = tt
   scan_places names [] (t ∷ ts) s = go (same t.word (codes "part")) (same t.word (codes "place")) (scan_places names of_part ts s.1) (scan_places names of_place ts s.1)
     where
-      go : (a b : Bool) → All (λ f. P f.place) (scan names of_part ts) → All (λ f. P f.place) (scan names of_place ts) →
-          All (λ f. P f.place) (cond a (if_so (leb most_parts (length names)) 3 t ++ scan names of_part ts) (cond b (scan names of_place ts) (if_so (one_of later t.word) 1 t)))
+      go : (a b : Bool) → AllByRecursion (λ f. P f.place) (scan names of_part ts) → AllByRecursion (λ f. P f.place) (scan names of_place ts) →
+          AllByRecursion (λ f. P f.place) (cond a (if_so (leb most_parts (length names)) 3 t ++ scan names of_part ts) (cond b (scan names of_place ts) (if_so (one_of later t.word) 1 t)))
       go true b p q = so_place (leb most_parts (length names)) 3 t (scan names of_part ts) s.0 p
       go false true p q = q
       go false false p q = lone (one_of later t.word) 1 t s.0
@@ -52,22 +52,22 @@ module _ (P : ℕ → Type 0) where
   scan_places names (used_name ∷ rs) (t ∷ ts) s = so_place (is_name t.word && not (one_of names t.word)) 2 t (scan names rs ts) s.0 (scan_places names rs ts s.1)
   scan_places names (shape ∷ rs) (t ∷ ts) s = go (same t.word (codes "box")) (scan_places names (of_box ++ rs) ts s.1)
     where
-      go : (a : Bool) → All (λ f. P f.place) (scan names (of_box ++ rs) ts) → All (λ f. P f.place) (cond a (scan names (of_box ++ rs) ts) (if_so true 1 t))
+      go : (a : Bool) → AllByRecursion (λ f. P f.place) (scan names (of_box ++ rs) ts) → AllByRecursion (λ f. P f.place) (cond a (scan names (of_box ++ rs) ts) (if_so true 1 t))
       go true p = p
       go false p = (s.0, tt)
   scan_places names (measure ∷ rs) (t ∷ ts) s = so_place (beyond t.word) 4 t (scan names rs ts) s.0 (scan_places names rs ts s.1)
   scan_places names (scale ∷ rs) (t ∷ ts) s = so_place (no_scale t.word) 4 t (scan names rs ts) s.0 (scan_places names rs ts s.1)
 
-all_kept : {X : Type 0} (P : X → Type 0) (f : X → Bool) (xs : List X) → All P xs → All P (filter f xs)
+all_kept : {X : Type 0} (P : X → Type 0) (f : X → Bool) (xs : List X) → AllByRecursion P xs → AllByRecursion P (filter f xs)
 all_kept P f [] s = tt
 all_kept P f (x ∷ xs) s = go (f x) (all_kept P f xs s.1)
   where
-    go : (b : Bool) → All P (filter f xs) → All P (cond b (x ∷ filter f xs) (filter f xs))
+    go : (b : Bool) → AllByRecursion P (filter f xs) → AllByRecursion P (cond b (x ∷ filter f xs) (filter f xs))
     go true a = (s.0, a)
     go false a = a
 
 -- a fault of words is told within the bytes
-pub faults_inside : (read : ℕ) (bs : List ℕ) → All (λ f. f.place < length bs) (word_faults read bs)
+pub faults_inside : (read : ℕ) (bs : List ℕ) → AllByRecursion (λ f. f.place < length bs) (word_faults read bs)
 faults_inside read bs =
     scan_places (λ p. p < length bs) [] [] (looked read bs)
     (all_kept (λ t. t.start < length bs) (λ t. leb (t.start + length t.word) read) (tokens bs)
@@ -107,22 +107,22 @@ module _ (bs : List ℕ) (p : ℕ) (reach : Reaches (take most_bytes bs) p) wher
   inside_limit : p ≤ most_bytes
   inside_limit = let h = reach.inside in omega (arith, length-take most_bytes bs)
 
-  below-reach : All (λ f. f.place < p) here
+  below-reach : AllByRecursion (λ f. f.place < p) here
   below-reach = All-weaker (λ f. f.place < length (take p bs)) (λ f. f.place < p) (λ f h. omega (arith, length-take p bs)) here (faults_inside (seen bs p) (take p bs))
 
   pub first_word : (f : Fault) (rest : List Fault) → here ≡ f ∷ rest → FirstFault bs f
   first_word f rest e = record {
-    so = wrong p reach (subst (λ (l : List Fault). Has l f) (sym e) (0, omega arith, λ d. refl));
+    so = wrong p reach (subst (λ (l : List Fault). ContainsAt l f) (sym e) (0, omega arith, λ d. refl));
     first = go;
   }
     where
       low : f.place < p
-      low = (subst (λ (l : List Fault). All (λ g. g.place < p) l) e below-reach).0
+      low = (subst (λ (l : List Fault). AllByRecursion (λ g. g.place < p) l) e below-reach).0
 
-      up : All (λ g. suc f.place ≤ g.place) rest
+      up : AllByRecursion (λ g. suc f.place ≤ g.place) rest
       up = ascends_all (suc f.place) rest (subst (Ascends 0) e (word_faults_ascend (seen bs p) (take p bs))).1
 
-      each : All (λ g. Before f g) (f ∷ rest)
+      each : AllByRecursion (λ g. Before f g) (f ∷ rest)
       each = (inr (refl, omega arith), All-weaker (λ g. suc f.place ≤ g.place) (λ g. Before f g) (λ g h. inl (omega arith)) rest up)
 
       go : (g : Fault) → Faulty bs g → Before f g
@@ -130,13 +130,13 @@ module _ (bs : List ℕ) (p : ℕ) (reach : Reaches (take most_bytes bs) p) wher
       go g (long i h) = let l = low in let k = inside_limit in let j : g.place ≡ most_bytes = ap (λ (x : Fault). x.place) i in inl (omega arith)
       go g (wrong q r h) =
           let e2 : q ≡ p = one_reach (take most_bytes bs) q p r reach in
-          all-has (λ x. Before f x) (f ∷ rest) g each (subst (λ (l : List Fault). Has l g) (ap (λ (n : ℕ). word_faults (seen bs n) (take n bs)) e2 ∙ e) h)
+          all-has (λ x. Before f x) (f ∷ rest) g each (subst (λ (l : List Fault). ContainsAt l g) (ap (λ (n : ℕ). word_faults (seen bs n) (take n bs)) e2 ∙ e) h)
 
   module _ (none : here ≡ []) where
-    no_word : (q : ℕ) (g : Fault) → Reaches (take most_bytes bs) q → Has (word_faults (seen bs q) (take q bs)) g → ⊥
+    no_word : (q : ℕ) (g : Fault) → Reaches (take most_bytes bs) q → ContainsAt (word_faults (seen bs q) (take q bs)) g → ⊥
     no_word q g r h =
         let e2 : q ≡ p = one_reach (take most_bytes bs) q p r reach in
-        let k : Has [] g = subst (λ (l : List Fault). Has l g) (ap (λ (n : ℕ). word_faults (seen bs n) (take n bs)) e2 ∙ none) h in
+        let k : ContainsAt [] g = subst (λ (l : List Fault). ContainsAt l g) (ap (λ (n : ℕ). word_faults (seen bs n) (take n bs)) e2 ∙ none) h in
         let l = k.1 in
         omega arith
 
@@ -178,6 +178,6 @@ no_fault bs t h e g (wrong p r k) =
     let q : p ≡ length bs = one_reach bs p (length bs) (subst (λ (l : List ℕ). Reaches l p) b r) (reach_text bs t) in
     let s : seen bs p ≡ p = cond-false (ltb most_bytes (length bs) && eqb p most_bytes) (p - 1) p (and_left (ltb most_bytes (length bs)) (eqb p most_bytes) (le-ltb _ _ h)) in
     let m : word_faults (seen bs p) (take p bs) ≡ [] = ap (λ (n : ℕ). word_faults n (take p bs)) s ∙ ap (λ (n : ℕ). word_faults n (take n bs)) q ∙ ap (word_faults (length bs)) (take_all (length bs) bs (omega arith)) ∙ e in
-    let z : Has [] g = subst (λ (l : List Fault). Has l g) m k in
+    let z : ContainsAt [] g = subst (λ (l : List Fault). ContainsAt l g) m k in
     let l = z.1 in
     omega arith

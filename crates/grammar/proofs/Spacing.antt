@@ -1,6 +1,6 @@
 -- The words of bytes stand apart: each begins behind the end of the one before it. So faults come in the order of their places.
 use Rattle.std.proofs.Common.{◌≡◌, ℕ, suc, ◌+◌, ◌≤◌, Bool, true, false, cond, not, ◌&&◌, leb, List, [], ◌∷◌, ◌++◌, map, length, drop, codes, filter, sym, refl, ap, ◌∙◌, subst, arith}
-use Rattle.std.specs.List.{AllByRecursion as All}
+use Rattle.std.specs.List.{AllByRecursion}
 use Rattle.std.proofs.lemmas.Bool.{cond-true, cond-false}
 use Rattle.grammar.specs.Grammar.{same, one_of, is_name}
 use Rattle.grammar.specs.Tokens.{in_tok, tok_at, starts_from, once_if}
@@ -82,7 +82,7 @@ ascends_less n m [] h s = tt
 ascends_less n m (f ∷ fs) h s = let k = s.0 in (omega arith, s.1)
 
 -- all that come behind one have larger places
-pub ascends_all : (n : ℕ) (fs : List Fault) → Ascends n fs → All (λ f. n ≤ f.place) fs
+pub ascends_all : (n : ℕ) (fs : List Fault) → Ascends n fs → AllByRecursion (λ f. n ≤ f.place) fs
 ascends_all n [] s = tt
 ascends_all n (f ∷ fs) s = (s.0, ascends_all n fs (let k = s.0 in ascends_less _ _ fs (omega arith) s.1))
 

@@ -5,7 +5,7 @@
 --   3  too many bytes or parts
 --   4  a number out of range
 use Rattle.std.specs.Prelude.{◌≡◌, ℕ, ◌+◌, ◌-◌, ◌<◌, ◌≤◌, Bool, true, false, cond, not, ◌&&◌, ◌||◌, leb, ◌⊎◌, List, [], ◌∷◌, ◌++◌, map, length, take, drop, codes, filter, ◌==◌, nat_le, nat_lt}
-use Rattle.std.specs.List.{ContainsAt as Has}
+use Rattle.std.specs.List.{ContainsAt}
 use Rattle.grammar.specs.Grammar.{same, one_of, is_name, Viable, Refused}
 use Rattle.grammar.specs.Tokens.{tok_at, starts_from}
 use Rattle.grammar.specs.Values.{read_on, number_limit, scale_most}
@@ -110,7 +110,7 @@ seen bs p = cond (nat_lt most_bytes (length bs) && p == most_bytes) (p - 1) p
 pub data Faulty (bs : List ℕ) (f : Fault) : Type 0 where
   stuck : (p : ℕ) → f ≡ fault 1 p → Refused (take most_bytes bs) p → (length bs ≤ most_bytes) ⊎ (p < most_bytes) → Faulty bs f
   long : f ≡ fault 3 most_bytes → most_bytes < length bs → Faulty bs f
-  wrong : (p : ℕ) → Reaches (take most_bytes bs) p → Has (word_faults (seen bs p) (take p bs)) f → Faulty bs f
+  wrong : (p : ℕ) → Reaches (take most_bytes bs) p → ContainsAt (word_faults (seen bs p) (take p bs)) f → Faulty bs f
 
 -- one fault is told rather than another
 abbrev pub Before : Fault → Fault → Type 0

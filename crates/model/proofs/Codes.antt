@@ -4,7 +4,7 @@ use lib.Signed.{mag}
 use mir.Syntax.{Width}
 use mir.Val.{bytes, hbits}
 use mir.Facts.{Fits-of_z}
-use Rattle.std.specs.List.{flat_map, AllByRecursion as All}
+use Rattle.std.specs.List.{flat_map, AllByRecursion}
 use Rattle.plane.specs.declared.types.Place.{Place}
 use Rattle.plane.specs.declared.types.Plane.{Plane}
 use Rattle.model.specs.Wire.{WirePlace, wire_place, InRangePlace}
@@ -40,7 +40,7 @@ unfolding listed
 length-listed w f k h xs = length-append (count_bytes w (length xs)) (flat_map f xs) ∙ ap₂ (λ (m n : ℕ). m + n) (length_count w (length xs)) (length-joined f k h xs)
 
 -- places that can be written
-pub w_small : (qs : List Place) → All InRangePlace (map wire_place qs) → All (λ (q : Place). q.w < 2 ^ 63) qs
+pub w_small : (qs : List Place) → AllByRecursion InRangePlace (map wire_place qs) → AllByRecursion (λ (q : Place). q.w < 2 ^ 63) qs
 w_small [] h = tt
 w_small (q ∷ qs) h = (h.0.w.sfits, w_small qs h.1)
 

@@ -4,7 +4,7 @@ use mir.Syntax.{Width, w128}
 use mir.Val.{bytes, bits}
 use mir.Facts.{of_z-to_z, Fits-of_z, sfits_to_z}
 use Rattle.std.proofs.lemmas.List.{take_at, drop_at}
-use Rattle.std.specs.List.{flat_map, AllByRecursion as All}
+use Rattle.std.specs.List.{flat_map, AllByRecursion}
 use Rattle.model.specs.Format.{low_first, count_bytes, signed_bytes, listed}
 use Rattle.model.specs.Finds.{Few}
 use Rattle.model.proofs.Digits.{Bytes, value, length-low_first, value-low_first, low_first-value, value-below, bytes_take, bytes_tail}
@@ -156,10 +156,10 @@ just p = record { thing = p.thing; range = refl; rest = p.rest; is = p.is; short
 
 -- n things in range
 abbrev pub Many : {X : Type 0} → (X → Type 0) → ℕ → List X → Type 0
-Many R n xs = (length xs ≡ n) × All R xs
+Many R n xs = (length xs ≡ n) × AllByRecursion R xs
 
 module _ {X : Type 0} {f : X → List ℕ} {R : X → Type 0} {k : ℕ} (j : Code f R k) where
-  pub apart_joined : (xs ys : List X) (r s : List ℕ) → length xs ≡ length ys → All R xs → All R ys → flat_map f xs ++ r ≡ flat_map f ys ++ s → (xs ≡ ys) × (r ≡ s)
+  pub apart_joined : (xs ys : List X) (r s : List ℕ) → length xs ≡ length ys → AllByRecursion R xs → AllByRecursion R ys → flat_map f xs ++ r ≡ flat_map f ys ++ s → (xs ≡ ys) × (r ≡ s)
   apart_joined [] [] r s n hx hy e = (refl, e)
   apart_joined [] (y ∷ ys) r s n hx hy e = absurd (omega arith)
   apart_joined (x ∷ xs) [] r s n hx hy e = absurd (omega arith)

@@ -2,7 +2,7 @@
 use Rattle.std.proofs.Common.{◌≡◌, ℕ, ◌+◌, ◌-◌, ◌*◌, ◌^◌, ◌<◌, ◌≤◌, List, [], ◌∷◌, ◌++◌, length, drop, Some, None, Option, sym, refl, ap, ◌∙◌, subst, inl, inr, arith, length-drop, w16}
 use mir.Syntax.{Width}
 use mir.Val.{bytes, bits}
-use Rattle.std.specs.List.{flat_map, AllByRecursion as All}
+use Rattle.std.specs.List.{flat_map, AllByRecursion}
 use Rattle.std.proofs.ByRecursion.{All-push}
 use Rattle.std.proofs.lemmas.List.{flat_map_more, length_push}
 use Rattle.model.specs.Format.{count_bytes, listed}
@@ -112,7 +112,7 @@ so_far_stop {X} {f} {R} k {l} {from} {i} {at} {n} p q h = λ ys end g s. go p.0 
     less : {a b : ℕ} → a ≡ i → b ≡ n → a < b
     less e z = omega arith
 
-    go : (xs ys : List X) (from : ℕ) → All R xs → All R ys → length xs < length ys → Stands l from (flat_map f xs) at → {end : ℕ} → Stands l from (flat_map f ys) end → ⊥
+    go : (xs ys : List X) (from : ℕ) → AllByRecursion R xs → AllByRecursion R ys → length xs < length ys → Stands l from (flat_map f xs) at → {end : ℕ} → Stands l from (flat_map f ys) end → ⊥
     go xs [] from hx hy m s t = omega arith
     go [] (y ∷ ys) from hx hy m s t = q y _ hy.0 (stands_as (none s.long) refl (ap (λ (a : ℕ). a + length (f y)) (none s.long)) (stands_split (f y) (flat_map f ys) t).first)
       where

@@ -2,7 +2,7 @@
 use Rattle.std.proofs.Common.{◌≡◌, ℕ, ◌^◌, ◌<◌, ◌≤◌, List, [], ◌∷◌, ◌++◌, map, ℤ, pos, nat_abs, ◌≤ℤ◌, sym, refl, ap, ◌∙◌, ap₂, arith, w8, w32, SFits}
 use Rattle.arith.specs.Bounds.{Short}
 use Rattle.arith.proofs.Sized.{short_fits}
-use Rattle.std.specs.List.{AllByRecursion as All}
+use Rattle.std.specs.List.{AllByRecursion}
 use Rattle.std.proofs.lemmas.Int.{ints}
 use Rattle.plane.specs.declared.types.Place.{Place}
 use Rattle.solid.specs.Models.{Piece, Face, Model}
@@ -22,7 +22,7 @@ unwire-wire m =
     ap₂ (λ (cs : List Piece) (fs : List Face). record { pieces = cs; faces = fs }) (map_back wire_piece unwire_piece (λ c. refl) m.pieces) (map_back wire_face unwire_face face_back m.faces)
 
 -- and the other way, where no w is below 0
-map_again : {X Y : Type 0} (f : X → Y) (g : Y → X) (P : Y → Type 0) → ((y : Y) → P y → f (g y) ≡ y) → (ys : List Y) → All P ys → map f (map g ys) ≡ ys
+map_again : {X Y : Type 0} (f : X → Y) (g : Y → X) (P : Y → Type 0) → ((y : Y) → P y → f (g y) ≡ y) → (ys : List Y) → AllByRecursion P ys → map f (map g ys) ≡ ys
 map_again f g P h [] a = refl
 map_again f g P h (y ∷ ys) a = ap₂ (λ z zs. z ∷ zs) (h y a.0) (map_again f g P h ys a.1)
 
@@ -36,14 +36,14 @@ pub piece_again : (c : WirePiece) → pos 0 ≤ℤ c.place.w → wire_piece (unw
 piece_again c h = ap (λ (q : WirePlace). record { planes = c.planes; place = q }) (place_again c.place h)
 
 abbrev pub NaturalFace : WireFace → Type 0
-NaturalFace f = (pos 0 ≤ℤ f.place.w) × All (λ (q : WirePlace). pos 0 ≤ℤ q.w) f.corners
+NaturalFace f = (pos 0 ≤ℤ f.place.w) × AllByRecursion (λ (q : WirePlace). pos 0 ≤ℤ q.w) f.corners
 
 pub face_again : (f : WireFace) → NaturalFace f → wire_face (unwire_face f) ≡ f
 face_again f h =
     ap₂ (λ (q : WirePlace) (vs : List WirePlace). record { plane = f.plane; edges = f.edges; place = q; corners = vs }) (place_again f.place h.0)
     (map_again wire_place unwire_place (λ (q : WirePlace). pos 0 ≤ℤ q.w) place_again f.corners h.1)
 
-pub wire-unwire : (m : WireModel) → All (λ (c : WirePiece). pos 0 ≤ℤ c.place.w) m.pieces → All NaturalFace m.faces → wire (unwire m) ≡ m
+pub wire-unwire : (m : WireModel) → AllByRecursion (λ (c : WirePiece). pos 0 ≤ℤ c.place.w) m.pieces → AllByRecursion NaturalFace m.faces → wire (unwire m) ≡ m
 wire-unwire m g h =
     ap₂ (λ (cs : List WirePiece) (fs : List WireFace). record { pieces = cs; faces = fs })
     (map_again wire_piece unwire_piece (λ (c : WirePiece). pos 0 ≤ℤ c.place.w) piece_again m.pieces g) (map_again wire_face unwire_face NaturalFace face_again m.faces h)

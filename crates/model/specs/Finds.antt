@@ -2,12 +2,12 @@
 use Rattle.std.specs.Prelude.{◌≡◌, ℕ, ◌+◌, ◌*◌, ◌^◌, ◌<◌, ◌≤◌, ◌⊎◌, List, length, None, Option, MatchOption}
 use Rattle.std.specs.Int.{Width, w16}
 use mir.Val.{bits}
-use Rattle.std.specs.List.{between, AllByRecursion as All}
+use Rattle.std.specs.List.{between, AllByRecursion}
 use Rattle.model.specs.Format.{count_bytes}
 
 -- things in range whose number fits
 abbrev pub Few : {X : Type 0} → (X → Type 0) → Width → List X → Type 0
-Few R w xs = (length xs < 2 ^ bits w) × All R xs
+Few R w xs = (length xs < 2 ^ bits w) × AllByRecursion R xs
 
 -- bs are the bytes of x, which is in range, and of nothing else in range
 pub record Decoded {X : Type 0} (f : X → List ℕ) (R : X → Type 0) (bs : List ℕ) (x : X) : Type 0 where

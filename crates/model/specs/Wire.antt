@@ -1,7 +1,7 @@
 -- What stands in the bytes of a model: pieces and faces as a solid's, but with any numbers that fit their bytes.
 use Rattle.std.specs.Prelude.{◌^◌, ◌<◌, List, map, length, pos, FitsSigned, unsigned_abs}
 use Rattle.std.specs.Int.{w8, w32, w64}
-use Rattle.std.specs.List.{AllByRecursion as All}
+use Rattle.std.specs.List.{AllByRecursion}
 use Rattle.plane.specs.declared.types.Plane.{Plane}
 use Rattle.plane.specs.declared.types.Place.{Place}
 use Rattle.solid.specs.Models.{Piece, Face, Model}
@@ -40,22 +40,22 @@ pub record InRangePlace (q : WirePlace) : Type 0 where
 
 pub record InRangePiece (c : WirePiece) : Type 0 where
   pub few : length c.planes < 2 ^ 16
-  pub planes : All InRangePlane c.planes
+  pub planes : AllByRecursion InRangePlane c.planes
   pub place : InRangePlace c.place
 
 pub record InRangeFace (f : WireFace) : Type 0 where
   pub plane : InRangePlane f.plane
   pub few_edges : length f.edges < 2 ^ 16
-  pub edges : All InRangePlane f.edges
+  pub edges : AllByRecursion InRangePlane f.edges
   pub place : InRangePlace f.place
   pub few_corners : length f.corners < 2 ^ 16
-  pub corners : All InRangePlace f.corners
+  pub corners : AllByRecursion InRangePlace f.corners
 
 pub record InRange (m : WireModel) : Type 0 where
   pub few_pieces : length m.pieces < 2 ^ 32
-  pub pieces : All InRangePiece m.pieces
+  pub pieces : AllByRecursion InRangePiece m.pieces
   pub few_faces : length m.faces < 2 ^ 32
-  pub faces : All InRangeFace m.faces
+  pub faces : AllByRecursion InRangeFace m.faces
 
 -- a solid's model as it is written
 abbrev pub wire_place : Place → WirePlace

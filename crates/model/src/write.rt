@@ -2,7 +2,7 @@
 
 ghost use Rattle.std.specs.Prelude.{◌≡◌, ◌+◌, ◌*◌, ◌^◌, ◌<◌, ◌≤◌, ◌++◌, map, length, drop};
 ghost use Rattle.std.specs.Int.{w16, w32, w64};
-ghost use Rattle.std.specs.List.{AllByRecursion as All};
+ghost use Rattle.std.specs.List.{AllByRecursion};
 ghost use Rattle.model.specs.Wire.{InRangePlane, InRangePiece, InRangeFace, wire_place, wire_piece, wire_face};
 ghost use Rattle.model.specs.Format.{count_bytes, signed_bytes, listed, plane_bytes, place_bytes, piece_bytes, face_bytes};
 
@@ -60,7 +60,7 @@ pub fn put_place(out: &mut [u8], q: Place)
 /// Writes how many planes there are, and each; says how many bytes they have.
 fn put_planes(out: &mut [u8], planes: &[Plane]) -> usize
     requires few { length planes.now < 2 ^ 16 }
-    requires range { All InRangePlane planes.now }
+    requires range { AllByRecursion InRangePlane planes.now }
     requires room { 2 + 7 * length planes.now ≤ length out.old }
     ensures written { out.new ≡ listed w16 plane_bytes planes.now ++ drop result out.old }
     ensures long { result ≡ 2 + 7 * length planes.now }
@@ -77,7 +77,7 @@ fn put_planes(out: &mut [u8], planes: &[Plane]) -> usize
 /// Writes how many places there are, and each; says how many bytes they have.
 fn put_places(out: &mut [u8], places: &[Place]) -> usize
     requires few { length places.now < 2 ^ 16 }
-    requires range { All (λ q. q.w < 2 ^ 63) places.now }
+    requires range { AllByRecursion (λ q. q.w < 2 ^ 63) places.now }
     requires room { 2 + 32 * length places.now ≤ length out.old }
     ensures written { out.new ≡ listed w16 place_bytes (map wire_place places.now) ++ drop result out.old }
     ensures long { result ≡ 2 + 32 * length places.now }

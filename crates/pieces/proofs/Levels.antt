@@ -1,7 +1,7 @@
 -- The planes of two parts and of the workshop are level.
 use Rattle.std.proofs.Common.{◌≡◌, ℕ, ◌-◌, ◌≤◌, ◌⊎◌, List, [], ◌∷◌, ◌++◌, take, nat_abs, refl, ap, ◌∙◌, subst, inl, inr, arith, lit≤}
 use native.Mathlib.Nat.{sub-zero}
-use Rattle.std.specs.List.{AllByRecursion as All}
+use Rattle.std.specs.List.{AllByRecursion}
 use Rattle.plane.specs.declared.types.Plane.{Plane}
 use Rattle.plane.specs.Limits.{FitsPlane, offset_limit}
 use Rattle.solid.specs.Shapes.{Has, planes, solid, workshop, box}
@@ -11,7 +11,7 @@ use Rattle.search.specs.Levels.{Level, AllLevel}
 use Rattle.pieces.specs.Questions.{planes_of_two, LevelSteps}
 use Rattle.pieces.proofs.Shaped.{coded_fits}
 
-has_all : {A : Type 0} (P : A → Type 0) (xs : List A) → All P xs → (x : A) → Has xs x → P x
+has_all : {A : Type 0} (P : A → Type 0) (xs : List A) → AllByRecursion P xs → (x : A) → Has xs x → P x
 has_all P [] a x h = absurd (has_none x h)
 has_all P (y ∷ xs) a x h = go (has_either y x xs h) (has_all P xs a.1 x)
   where

@@ -3,7 +3,7 @@
 ghost use Rattle.std.specs.Prelude.{◌≡◌, ◌+◌, ◌≤◌, ◌++◌, length, take, pos};
 ghost use Rattle.arith.specs.Bounds.{Short};
 ghost use Rattle.plane.specs.Limits.{reach};
-ghost use Rattle.solid.specs.Shapes.{plane, workshop, planes as planes-of};
+ghost use Rattle.solid.specs.Shapes.{plane, workshop, planes as planes_of};
 ghost use Rattle.solid.specs.Stacks.{shape_of, word_planes};
 ghost use Rattle.solid.specs.Steps.{Coded};
 ghost use Rattle.pieces.specs.Questions.{planes_of_two};
@@ -45,7 +45,7 @@ const fn wall(a: i64, b: i64, c: i64) -> Plane
 pub(crate) fn put_walls(planes: &mut [Plane]) -> usize
     requires { 6 ≤ length planes.old }
     ensures count { result ≡ 6 }
-    ensures are { take result planes.new ≡ planes-of workshop }
+    ensures are { take result planes.new ≡ planes_of workshop }
 {
     planes[0..6].copy_from_slice(&[
         wall(1, 0, 0),

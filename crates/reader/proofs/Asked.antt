@@ -2,7 +2,7 @@
 --     asked_lies, laid_lies        each question lies at its number, in the words of the lines and where they are laid
 --     lies-place, lies_steps       its place and its steps, read from the words
 use Rattle.std.proofs.Common.{◌≡◌, ℕ, zero, suc, ◌+◌, ◌*◌, ◌<◌, ◌≤◌, Bool, true, false, ◌||◌, List, [], ◌∷◌, ◌++◌, length, get_or, take, drop, ℤ, neg_ℤ, nat_abs, sym, refl, ap, ◌∙◌, subst, inl, inr, append_assoc, append-nil, add-zero, zero-add, arith, w64, to_z, of_z, rules}
-use Rattle.std.specs.List.{AllByRecursion as All}
+use Rattle.std.specs.List.{AllByRecursion}
 use Rattle.std.proofs.lemmas.Int.{ints}
 use Rattle.std.proofs.lemmas.List.{take_at, take-append-le, take-append-drop, get_or-take, map_push, drop_at, drop-append-le, drop-drop, length-append, length-drop, get_or-append-add}
 use Rattle.std.proofs.lemmas.Bool.{both_ways, cond-true, cond-false}
@@ -24,7 +24,7 @@ use Rattle.reader.proofs.Next.{part_sound, place_sound}
 use Rattle.reader.proofs.Numbers.{Numbers, box-numbers, Coordinates, place-numbers}
 
 -- a box in range
-each : (ps : List Plane) → All FitsPlane ps → (p : Plane) → Has ps p → FitsPlane p
+each : (ps : List Plane) → AllByRecursion FitsPlane ps → (p : Plane) → Has ps p → FitsPlane p
 each [] f p h = absurd (has_none p h)
 each (q ∷ ps) f p h = elim (has_either q p ps h) [ inl e ↦ subst FitsPlane e f.0 | inr k ↦ each ps f.1 p k ]
 
@@ -37,7 +37,7 @@ box_fits x0 x1 y0 y1 z0 z1 n =
     let t0 = turned-short x0 n.x0 in
     let t1 = turned-short y0 n.y0 in
     let t2 = turned-short z0 n.z0 in
-    let f : All FitsPlane (planes (box_of x0 x1 y0 y1 z0 z1)) = search rules in
+    let f : AllByRecursion FitsPlane (planes (box_of x0 x1 y0 y1 z0 z1)) = search rules in
     record { few = omega arith; each = each (planes (box_of x0 x1 y0 y1 z0 z1)) f }
 
 -- a place in range
@@ -50,7 +50,7 @@ place_small x y z w n =
 
 -- parts in range
 abbrev AllFit : List Part → Type 0
-AllFit ps = All (λ p. Fits p.shape) ps
+AllFit ps = AllByRecursion (λ p. Fits p.shape) ps
 
 all_push : (ps : List Part) (p : Part) → AllFit ps → Fits p.shape → AllFit (ps ++ p ∷ [])
 all_push [] p a f = (f, tt)

@@ -1,6 +1,6 @@
 use Rattle.std.proofs.Common.{List, [], ◌∷◌, ℤ, pos, negsuc, arith}
 use Rattle.std.proofs.lemmas.Int.{ints}
-use Rattle.std.specs.List.{AllByRecursion as All}
+use Rattle.std.specs.List.{AllByRecursion}
 use Rattle.plane.specs.declared.types.Plane.{Plane}
 use Rattle.plane.specs.Limits.{FitsPlane}
 use Rattle.solid.specs.Shapes.{planes, plane, box}
@@ -17,6 +17,6 @@ six_planes i j k l m n =
 pub returns : goal.returns
 unfolding block_piece planes box
 returns c =
-    valued (All FitsPlane) (block_piece c.args.b).planes
+    valued (AllByRecursion FitsPlane) (block_piece c.args.b).planes
     (six six_planes (omega (arith, ints)) (omega (arith, ints)) (omega (arith, ints)) (omega (arith, ints)) (omega (arith, ints)) (omega (arith, ints)))
     (piece_fits c.args.b c.requires)
