@@ -1,7 +1,7 @@
 -- On, below, just below and just above a plane across a way, by how far the place is that way.
 --     below-far, on-far                             at any place
 --     below_at, on-at                               at a place that is exactly a ahead
---     just-below-same, just-below-opp, ..           at a place on the plane that looks a way: planes across that way, the opposite way, ways across
+--     below-same, below-opp, ..                     at a place on the plane that looks a way: planes across that way, the opposite way, ways across
 use Rattle.std.proofs.Common.{◌≡◌, ◌<◌, Bool, true, false, cond, ℤ, pos, negsuc, ◌*ℤ◌, neg_ℤ, sym, refl, ap, ◌∙◌, ap₂, arith}
 use lib.Signed.{lt_z, le_z}
 use Rattle.std.proofs.lemmas.Int.{ints}

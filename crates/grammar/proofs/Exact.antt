@@ -241,7 +241,7 @@ same_eq (a ∷ x) (b ∷ y) h =
     let f = same_eq x y p.1 in
     cc
 
--- what a word's kind_of tells of it
+-- what a word's kind tells of it
 abbrev pub Tells : Kind → List ℕ → Type 0
 Tells HalfWord w = w ≡ codes "half"
 Tells BoxWord w = w ≡ codes "box"
@@ -291,7 +291,7 @@ tells w =
     (λ _. cond_both (one_of one_words w) _ _ P (one_is w)
     (λ _. cond_both (is_name w) _ _ P (λ h. h) (λ _. tt))))))
 
--- a name is of the kind_of `NameWord`
+-- a name is of the kind `NameWord`
 not_same : (w k : List ℕ) → is_name w ≡ true → is_name k ≡ false → same w k ≡ false
 not_same w k h n = go (same w k) refl
   where

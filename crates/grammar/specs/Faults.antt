@@ -4,7 +4,7 @@
 --   2  a name that is twice, or isn't there yet
 --   3  too many bytes or parts
 --   4  a number out of range
-use Rattle.std.specs.Prelude.{◌≡◌, ℕ, ◌+◌, ◌-◌, ◌<◌, ◌≤◌, Bool, true, false, cond, not, ◌&&◌, ◌||◌, leb, ◌⊎◌, List, [], ◌∷◌, ◌++◌, map, length, take, drop, codes, filter, ◌==◌, nat_le, nat_lt}
+use Rattle.std.specs.Prelude.{◌≡◌, ℕ, ◌+◌, ◌-◌, ◌<◌, ◌≤◌, Bool, true, false, cond, not, ◌&&◌, ◌||◌, ◌⊎◌, List, [], ◌∷◌, ◌++◌, map, length, take, drop, codes, filter, ◌==◌, nat_le, nat_lt}
 use Rattle.std.specs.List.{ContainsAt}
 use Rattle.grammar.specs.Grammar.{same, one_of, is_name, Viable, Refused}
 use Rattle.grammar.specs.Tokens.{tok_at, starts_from}
@@ -86,7 +86,7 @@ scan names (scale ∷ rs) (t ∷ ts) = if_so (no_scale t.word) 4 t ++ scan names
 
 -- the words of bytes of which so many count as read: a word that ends behind them is not looked at
 abbrev pub looked : ℕ → List ℕ → List Token
-looked read bs = filter (λ t. leb (t.start + length t.word) read) (tokens bs)
+looked read bs = filter (λ t. nat_le (t.start + length t.word) read) (tokens bs)
 
 -- the faults in them
 abbrev pub word_faults : ℕ → List ℕ → List Fault

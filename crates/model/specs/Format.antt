@@ -1,7 +1,8 @@
 -- The format: a model in bytes, low byte first. Numbers of things have no sign; all others have one, in two's complement.
 use Rattle.std.specs.Prelude.{ℕ, zero, suc, ◌/◌, ◌%◌, List, [], ◌∷◌, ◌++◌, length, ℤ}
 use Rattle.std.specs.Int.{Width, w8, w16, w32, w64}
-use mir.Val.{bytes, of_z}
+use mir.Val.{bytes}
+use Rattle.std.specs.Int.{cast_unsigned}
 use Rattle.std.specs.List.{flat_map}
 use Rattle.plane.specs.declared.types.Plane.{Plane}
 use Rattle.model.specs.Wire.{WirePlace, WirePiece, WireFace, WireModel}
@@ -17,7 +18,7 @@ count_bytes w n = low_first (bytes w) n
 
 -- a number with a sign
 unfoldable pub signed_bytes : Width → ℤ → List ℕ
-signed_bytes w z = low_first (bytes w) (of_z w z)
+signed_bytes w z = low_first (bytes w) (cast_unsigned w z)
 
 -- how many there are, and each
 unfoldable pub listed : {X : Type 0} → Width → (X → List ℕ) → List X → List ℕ

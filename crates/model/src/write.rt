@@ -95,7 +95,7 @@ fn put_places(out: &mut [u8], places: &[Place]) -> usize
 pub fn put_piece(out: &mut [u8], planes: &[Plane], place: Place) -> usize
     requires range { InRangePiece (wire_piece (record { planes = planes.now; place = place })) }
     requires room { 34 + 7 * length planes.now ≤ length out.old }
-    ensures written { out.new ≡ piece_bytes (wire_piece (record { planes = planes.entry.now; place = place })) ++ drop result out.old }
+    ensures written { out.new ≡ piece_bytes (wire_piece (record { planes = planes.now; place = place })) ++ drop result out.old }
     ensures long { result ≡ 34 + 7 * length planes.now }
 {
     let at = put_planes(out, planes);

@@ -1,7 +1,6 @@
 -- What is told to a question.
-use Rattle.std.specs.Prelude.{◌≡◌, ℕ, ◌+◌, ◌*◌, ◌<◌, ◌≤◌, List, [], length, get_or, take, drop, Some, None, Option, slice_index, slice_index_or}
-use Rattle.std.specs.Int.{w64}
-use Rattle.std.proofs.Common.{to_z}
+use Rattle.std.specs.Prelude.{◌≡◌, ℕ, ◌+◌, ◌*◌, ◌<◌, ◌≤◌, List, [], length, take, drop, Some, None, Option, slice_index, slice_index_or}
+use Rattle.std.specs.Int.{w64, cast_signed}
 use Rattle.plane.specs.declared.types.Place.{Place as Spot}
 use Rattle.plane.specs.Limits.{SmallPlace}
 use Rattle.solid.specs.Steps.{Coded}
@@ -48,9 +47,9 @@ Replied (Taken n) text work k r =
 -- the place of the k-th question, and where its part's steps are
 abbrev pub place_in : List ℕ → ℕ → Spot
 place_in asked k = record {
-  x = to_z w64 (slice_index asked (6 * k + 2));
-  y = to_z w64 (slice_index asked (6 * k + 3));
-  z = to_z w64 (slice_index asked (6 * k + 4));
+  x = cast_signed w64 (slice_index asked (6 * k + 2));
+  y = cast_signed w64 (slice_index asked (6 * k + 3));
+  z = cast_signed w64 (slice_index asked (6 * k + 4));
   w = slice_index asked (6 * k + 5);
 }
 
@@ -60,7 +59,7 @@ steps_in steps asked k = take (slice_index asked (6 * k + 1)) (drop (slice_index
 -- the words hold a k-th question
 pub record Ready (steps asked : List ℕ) (k : ℕ) : Type 0 where
   pub inside : 6 * k + 6 ≤ length asked
-  pub steps_inside : get_or asked (6 * k) 0 + slice_index asked (6 * k + 1) ≤ length steps
+  pub steps_inside : slice_index asked (6 * k) + slice_index asked (6 * k + 1) ≤ length steps
   pub coded : Coded (steps_in steps asked k)
   pub small : SmallPlace (place_in asked k)
-  pub few : get_or asked (6 * k + 1) 0 ≤ work_needed
+  pub few : slice_index asked (6 * k + 1) ≤ work_needed

@@ -1,7 +1,6 @@
 -- A question about a place, as it lies in words.
-use Rattle.std.specs.Prelude.{◌≡◌, ℕ, ◌+◌, ◌*◌, ◌≤◌, List, length, take, drop, slice_index_or}
-use Rattle.std.specs.Int.{w64}
-use Rattle.std.proofs.Common.{of_z}
+use Rattle.std.specs.Prelude.{◌≡◌, ℕ, ◌+◌, ◌*◌, ◌≤◌, List, length, take, drop, slice_index}
+use Rattle.std.specs.Int.{w64, cast_unsigned}
 use Rattle.plane.specs.declared.types.Place.{Place}
 use Rattle.plane.specs.Limits.{SmallPlace}
 use Rattle.solid.specs.Shapes.{Shape, Fits}
@@ -18,12 +17,12 @@ pub record Lies (steps asked : List ℕ) (k : ℕ) (q : Question) : Type 0 where
   pub from : ℕ
   pub count : ℕ
   pub inside : 6 * k + 6 ≤ length asked
-  pub from_is : slice_index_or asked (6 * k) 0 ≡ from
-  pub count_is : slice_index_or asked (6 * k + 1) 0 ≡ count
-  pub x_is : slice_index_or asked (6 * k + 2) 0 ≡ of_z w64 place.x
-  pub y_is : slice_index_or asked (6 * k + 3) 0 ≡ of_z w64 place.y
-  pub z_is : slice_index_or asked (6 * k + 4) 0 ≡ of_z w64 place.z
-  pub w_is : slice_index_or asked (6 * k + 5) 0 ≡ place.w
+  pub from_is : slice_index asked (6 * k) ≡ from
+  pub count_is : slice_index asked (6 * k + 1) ≡ count
+  pub x_is : slice_index asked (6 * k + 2) ≡ cast_unsigned w64 place.x
+  pub y_is : slice_index asked (6 * k + 3) ≡ cast_unsigned w64 place.y
+  pub z_is : slice_index asked (6 * k + 4) ≡ cast_unsigned w64 place.z
+  pub w_is : slice_index asked (6 * k + 5) ≡ place.w
   pub steps_inside : from + count ≤ length steps
   pub steps_are : take count (drop from steps) ≡ words shape
   pub long : count ≡ length (words shape)

@@ -1,7 +1,6 @@
 -- How a text that is taken lies in words: the steps of its parts, one part behind the other, and its questions, six words each.
 use Rattle.std.specs.Prelude.{◌≡◌, ℕ, ◌+◌, ◌*◌, ◌<◌, ◌≤◌, true, cond, List, [], ◌∷◌, ◌++◌, length, take, slice_index, unsigned_abs}
-use Rattle.std.specs.Int.{w64}
-use Rattle.std.proofs.Common.{of_z}
+use Rattle.std.specs.Int.{w64, cast_unsigned}
 use Rattle.solid.specs.Steps.{words}
 use Rattle.grammar.specs.Grammar.{Name, Expr, Line, part, place, same_as, meet, model, same, print}
 use Rattle.grammar.specs.Tokens.{code_of}
@@ -40,7 +39,7 @@ spot u (p ∷ ps) w = cond (same w p.name) (u ∷ length (words p.shape) ∷ [])
 abbrev pub asked_words : List Part → List Line → List ℕ
 asked_words ps [] = []
 asked_words ps (part n e ∷ ls) = asked_words (with_part ps n e) ls
-asked_words ps (place n x y z w ∷ ls) = spot 0 ps n.0 ++ (of_z w64 x ∷ of_z w64 y ∷ of_z w64 z ∷ unsigned_abs w ∷ asked_words ps ls)
+asked_words ps (place n x y z w ∷ ls) = spot 0 ps n.0 ++ (cast_unsigned w64 x ∷ cast_unsigned w64 y ∷ cast_unsigned w64 z ∷ unsigned_abs w ∷ asked_words ps ls)
 asked_words ps (same_as n m ∷ ls) = asked_words ps ls
 asked_words ps (meet n m ∷ ls) = asked_words ps ls
 asked_words ps (model n ∷ ls) = asked_words ps ls

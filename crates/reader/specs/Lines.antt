@@ -1,7 +1,6 @@
 -- Lines that are taken, as they lie in a text, and the words that they are laid into.
 use Rattle.std.specs.Prelude.{◌≡◌, ℕ, true, cond, ◌&&◌, List, [], ◌∷◌, ◌++◌, take, drop, ℤ, unsigned_abs}
-use Rattle.std.specs.Int.{w64}
-use Rattle.std.proofs.Common.{of_z}
+use Rattle.std.specs.Int.{w64, cast_unsigned}
 use Rattle.solid.specs.Shapes.{box as box_of}
 use Rattle.solid.specs.Steps.{words}
 use Rattle.grammar.specs.Grammar.{Name, box, part, place, same}
@@ -44,4 +43,4 @@ pub record PlaceAt (text tokens : List ℕ) : Type 0 where
 
 -- the words of its question
 abbrev pub question_at : {text tokens : List ℕ} → List (List ℕ) → List ℕ → PlaceAt text tokens → List ℕ
-question_at names spots p = pair_of names spots p.name.0 ++ (of_z w64 p.x ∷ of_z w64 p.y ∷ of_z w64 p.z ∷ unsigned_abs p.w ∷ [])
+question_at names spots p = pair_of names spots p.name.0 ++ (cast_unsigned w64 p.x ∷ cast_unsigned w64 p.y ∷ cast_unsigned w64 p.z ∷ unsigned_abs p.w ∷ [])

@@ -150,7 +150,7 @@ pub(crate) fn behind_word(stack: &mut [u64], depth: usize, kind: Kind, c: Sep, b
 
 /// The next byte of a number; `depth` is with that number.
 pub(crate) fn in_number(stack: &mut [u64], depth: usize, want: Want, b: u8) -> Went
-    requires depth_nonzero { (0 < depth) × (depth ≤ length stack.old) }
+    requires depth { (0 < depth) × (depth ≤ length stack.old) }
     requires number { Number want }
     requires on { stack_of stack.old depth [] ≡ lift want [] ∷ stack_of stack.old (depth - 1) [] }
     ensures { (w : List ℕ) → Goes result (step (lift want w ∷ stack_of stack.old (depth - 1) []) b) stack.new depth w b }

@@ -1,6 +1,6 @@
 -- The doubled coordinates between the level planes of an axis, as they are written and as they are used.
 --     numbers-none, one_more, none_more              the words that a loop writes
---     middle_from, middle-of                         what the middles come from
+--     middle_from                                    what the middles come from
 --     spots-short                                    how large they are
 --     odd                                            none is at a number
 --     choose                                         one is on the same side of each number as a place that is at none

@@ -1,8 +1,7 @@
 -- Level planes: x, y or z at a number. Where it matters, a place is told by its coordinates doubled, so that a whole number and the middle
 -- between two are whole.
 use Rattle.std.specs.Prelude.{◌≡◌, ℕ, zero, suc, ◌+◌, ◌*◌, List, [], ◌∷◌, ◌++◌, map, ℤ, pos, negsuc, ◌+ℤ◌, ◌*ℤ◌, neg_ℤ, Some, None, Option, unsigned_abs}
-use Rattle.std.specs.Int.{w64}
-use Rattle.std.proofs.Common.{to_z}
+use Rattle.std.specs.Int.{w64, cast_signed}
 use Rattle.arith.specs.Bounds.{Short}
 use Rattle.plane.specs.declared.types.Plane.{Plane}
 use Rattle.plane.specs.declared.types.Place.{Place}
@@ -69,7 +68,7 @@ spots o ps x = spots_by (base_along x o) (middles x ps)
 
 -- the signed numbers in words
 abbrev pub numbers : List ℕ → List ℤ
-numbers ws = map (to_z w64) ws
+numbers ws = map (cast_signed w64) ws
 
 -- planes in range and level
 abbrev pub AllLevel : List Plane → Type 0

@@ -1,8 +1,7 @@
 //! What is special to level planes: the numbers of x, y and z that stand for all, and a walk over them.
 
 ghost use Rattle.std.specs.Prelude.{◌≡◌, ◌+◌, ◌<◌, ◌≤◌, length, take, pos, ◌+ℤ◌, ◌*ℤ◌};
-ghost use Rattle.std.specs.Int.{w64};
-ghost use Rattle.std.proofs.Common.{to_z};
+ghost use Rattle.std.specs.Int.{w64, cast_signed};
 ghost use Rattle.arith.specs.Bounds.{Short};
 ghost use Rattle.plane.specs.Limits.{FitsPlane, SmallPlace, slope_limit, offset_limit};
 ghost use Rattle.search.specs.Levels.{AllLevel, BaseLevel, slope_along, number_along, base_along, numbers, middles, spots, spot_limit, halved, AllShort, Listed, Standing};
@@ -47,7 +46,7 @@ fn number_of(p: Plane, axis: Axis) -> Option<i64>
 /// The middle behind a number, doubled.
 fn middle_behind(v: i64) -> u64
     requires { Short v offset_limit }
-    ensures { to_z w64 result ≡ pos 2 *ℤ v +ℤ pos 1 }
+    ensures { cast_signed w64 result ≡ pos 2 *ℤ v +ℤ pos 1 }
 {
     (2 * v + 1).cast_unsigned()
 }
@@ -99,10 +98,10 @@ fn write_spots(base: Option<Plane>, planes: &[Plane], axis: Axis, out: &mut [u64
 
 /// The place with these doubled coordinates.
 fn place_of(x: u64, y: u64, z: u64) -> Place
-    requires x { Short (to_z w64 x) spot_limit }
-    requires y { Short (to_z w64 y) spot_limit }
-    requires z { Short (to_z w64 z) spot_limit }
-    ensures value { result ≡ halved (to_z w64 x) (to_z w64 y) (to_z w64 z) }
+    requires x { Short (cast_signed w64 x) spot_limit }
+    requires y { Short (cast_signed w64 y) spot_limit }
+    requires z { Short (cast_signed w64 z) spot_limit }
+    ensures value { result ≡ halved (cast_signed w64 x) (cast_signed w64 y) (cast_signed w64 z) }
     ensures small { SmallPlace result }
 {
     Place {
