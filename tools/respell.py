@@ -2,13 +2,16 @@
 """Respells the names that specs/ and proofs/ declare: types in upper camel case, all else in snake case.
 
 usage: python3 tools/respell.py            at the top of the repository
-       python3 tools/respell.py --list     prints old and new, and changes nothing
-       python3 tools/respell.py --try      tells which names would fall together in a file, and changes nothing
+       python3 tools/respell.py --lemmas   the second step, over what the first one left
+       with --list   prints old and new, and changes nothing
+       with --try    tells which names would fall together in a file, and changes nothing
 
 A name of specs/, a definition, a field, a constructor or a local name gets '_' for each dash. In a lemma's name a
 dash stays where it joins two names, as in 'height-turned', and is '_' before a plain word, as in 'piece_found'.
+The first step takes for a name what is declared anywhere; the second one, only what the lemma's statement names.
 Names of the kit, of Rust code and of goals stay. A name is turned wherever it stands as a whole word: in specs/
-and proofs/, and in the clauses and comments of src/. It was run once, right behind the kit's port.py.
+and proofs/, and in the clauses and comments of src/. Both were run once: the first right behind the kit's port.py,
+the second when all crates proved.
 """
 
 import collections
@@ -22,7 +25,7 @@ DECLARED = re.compile(
 )
 NOT_NAMES = {"let", "λ", "in", "elim", "module", "where", "infixl", "infixr", "use", "|"}
 # words of std that a lemma's name may join
-STD = {"length", "append", "take", "drop", "map", "get_or", "take", "sum", "not", "none?"}
+STD = {"length", "append", "take", "drop", "map", "get_or", "sum", "not", "none?"}
 # names that would fall together with another, or that a plain change of dashes would leave unreadable
 BY_HAND = {
     "none?": "is_empty",
@@ -35,6 +38,14 @@ BY_HAND = {
     "read-on": "words_at_behind",
     "bit-and": "bit_and-bit",
     "bit-or": "bit_or-bit",
+}
+# lemmas that the second step names after what their left sides say
+LEMMAS_BY_HAND = {
+    "joined-map": "flat_map-map",
+    "length-joined": "length-flat_map",
+    "length-place": "length-place_bytes",
+    "length-plane": "length-plane_bytes",
+    "length-signed": "length-signed_bytes",
 }
 # names that do so in one crate alone
 BY_HAND_IN = {"crates/grammar/": {"one-word": "is_word-one_word"}}
@@ -162,6 +173,43 @@ def table(texts, ours):
     return out, kinds
 
 
+def statements(texts):
+    """Each lemma whose name has a dash: what its declarations state."""
+    out = collections.defaultdict(list)
+    for path, text in texts.items():
+        lines = text.split("\n")
+        for at, line in enumerate(lines):
+            m = DECLARED.match(line)
+            if not m or line[m.end() - 1] != ":" or line.lstrip().startswith("--"):
+                continue
+            stated = line[m.end():]
+            if stated.strip().startswith("goal."):
+                continue
+            for name in m[3].split():
+                if re.search(r"\w-\w", name):
+                    rest = []
+                    for after in lines[at + 1:]:
+                        if not after.strip() or after.strip().startswith(("unfolding ", "--")) or after.split()[0] == name:
+                            break
+                        rest.append(after)
+                    out[name].append(stated + " ".join(rest))
+    return out
+
+
+def lemma_table(texts):
+    out = {}
+    for name, stated in statements(texts).items():
+        said = [set(WORD.findall(it)) | ({"append"} if "++" in it else set()) for it in stated]
+        parts = name.split("-")
+        new = parts[0]
+        for a, b in zip(parts, parts[1:]):
+            new += ("-" if all(a in it and b in it for it in said) else "_") + b
+        new = LEMMAS_BY_HAND.get(name, new)
+        if new != name:
+            out[name] = new
+    return out
+
+
 def turn(text, words, path, ours):
     stay = kit_names(text, ours) - set(declared({path: text}))
     heads = {"c", "w", "l", "g"} if kind_of(path) == "answers" else set()
@@ -173,8 +221,9 @@ def turn(text, words, path, ours):
             return word
         before = text[: m.start()]
         dotted = re.search(r"([^\s(){};,.]+)\.$", before)
+        if dotted and "--lemmas" in sys.argv:
+            return word
         if dotted:
-            head = dotted[1]
             chain = re.search(r"((?:[^\s(){};,]+\.)+)$", before)[1].rstrip(".").split(".")
             if chain[0] in ("goal", "tie") and len(chain) == 1:
                 return word
@@ -196,6 +245,8 @@ def main():
     ours = {line.split(":")[0].split()[0] for line in open("crates.txt") if ":" in line}
     texts = {f: open(f, encoding="utf-8").read() for f in files()}
     words, kinds = table(texts, ours)
+    if "--lemmas" in sys.argv:
+        words, kinds = lemma_table(texts), collections.defaultdict(lambda: {"lemma"})
     if "--list" in sys.argv:
         for old, new in sorted(words.items()):
             print(old, new, ",".join(sorted(kinds[old])), sep="\t")
@@ -204,7 +255,7 @@ def main():
         text = open(f, encoding="utf-8").read()
         local = dict(words)
         for crate, names in BY_HAND_IN.items():
-            if f.startswith(crate):
+            if f.startswith(crate) and "--lemmas" not in sys.argv:
                 local.update(names)
         new = turn(text, local, f, ours)
         if new != text and "--try" not in sys.argv:

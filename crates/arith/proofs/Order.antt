@@ -150,30 +150,30 @@ Says minus z = z <ℤ pos 0
 Says none z = z ≡ pos 0
 Says plus z = pos 0 <ℤ z
 
-pub sgn-says : (z : ℤ) → Says (sgn z) z
-sgn-says (pos zero) = refl
-sgn-says (pos (suc n)) = omega (arith, ints)
-sgn-says (negsuc n) = omega (arith, ints)
+pub sgn_says : (z : ℤ) → Says (sgn z) z
+sgn_says (pos zero) = refl
+sgn_says (pos (suc n)) = omega (arith, ints)
+sgn_says (negsuc n) = omega (arith, ints)
 
-pub says-sgn : (s : Sign) (z : ℤ) → Says s z → sgn z ≡ s
-says-sgn minus (pos n) h = absurd (omega (arith, ints))
-says-sgn minus (negsuc n) h = refl
-says-sgn none z h = ap sgn h
-says-sgn plus (pos zero) h = absurd (omega (arith, ints))
-says-sgn plus (pos (suc n)) h = refl
-says-sgn plus (negsuc n) h = absurd (omega (arith, ints))
+pub says_sgn : (s : Sign) (z : ℤ) → Says s z → sgn z ≡ s
+says_sgn minus (pos n) h = absurd (omega (arith, ints))
+says_sgn minus (negsuc n) h = refl
+says_sgn none z h = ap sgn h
+says_sgn plus (pos zero) h = absurd (omega (arith, ints))
+says_sgn plus (pos (suc n)) h = refl
+says_sgn plus (negsuc n) h = absurd (omega (arith, ints))
 
-pub says-times : (s t : Sign) (a b : ℤ) → Says s a → Says t b → Says (times s t) (a *ℤ b)
-says-times minus minus a b h k = mul_neg_neg a b h k
-says-times minus none a b h k = ap (λ x. a *ℤ x) k ∙ *ℤ-zero a
-says-times minus plus a b h k = mul_neg_pos a b h k
-says-times none t a b h k = ap (λ x. x *ℤ b) h ∙ zero-*ℤ b
-says-times plus minus a b h k = mul_pos_neg a b h k
-says-times plus none a b h k = ap (λ x. a *ℤ x) k ∙ *ℤ-zero a
-says-times plus plus a b h k = mul_positive a b h k
+pub says_times : (s t : Sign) (a b : ℤ) → Says s a → Says t b → Says (times s t) (a *ℤ b)
+says_times minus minus a b h k = mul_neg_neg a b h k
+says_times minus none a b h k = ap (λ x. a *ℤ x) k ∙ *ℤ-zero a
+says_times minus plus a b h k = mul_neg_pos a b h k
+says_times none t a b h k = ap (λ x. x *ℤ b) h ∙ zero-*ℤ b
+says_times plus minus a b h k = mul_pos_neg a b h k
+says_times plus none a b h k = ap (λ x. a *ℤ x) k ∙ *ℤ-zero a
+says_times plus plus a b h k = mul_positive a b h k
 
 pub sgn_mul : (a b : ℤ) → sgn (a *ℤ b) ≡ times (sgn a) (sgn b)
-sgn_mul a b = says-sgn (times (sgn a) (sgn b)) (a *ℤ b) (says-times (sgn a) (sgn b) a b (sgn-says a) (sgn-says b))
+sgn_mul a b = says_sgn (times (sgn a) (sgn b)) (a *ℤ b) (says_times (sgn a) (sgn b) a b (sgn_says a) (sgn_says b))
 
 pub sgn_neg : (a : ℤ) → sgn (neg_ℤ a) ≡ opposite (sgn a)
 sgn_neg (pos zero) = refl
@@ -181,5 +181,5 @@ sgn_neg (pos (suc n)) = refl
 sgn_neg (negsuc n) = refl
 
 -- a positive factor does not show in the sign
-pub sgn-scaled : (c a : ℤ) → pos 0 <ℤ c → sgn (c *ℤ a) ≡ sgn a
-sgn-scaled c a h = sgn_mul c a ∙ ap (λ s. times s (sgn a)) (says-sgn plus c h)
+pub sgn_scaled : (c a : ℤ) → pos 0 <ℤ c → sgn (c *ℤ a) ≡ sgn a
+sgn_scaled c a h = sgn_mul c a ∙ ap (λ s. times s (sgn a)) (says_sgn plus c h)

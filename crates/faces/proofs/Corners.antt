@@ -19,12 +19,11 @@ use Rattle.plane.specs.Meets.{determinant}
 use Rattle.solid.specs.Shapes.{Has, At}
 use Rattle.solid.specs.Models.{Face, Corner, RightCorners, none_above, leftward, next}
 use Rattle.solid.specs.Examples.{at}
-use Rattle.solid.proofs.Members.{map_has, has_map}
+use Rattle.solid.proofs.Members.{map_has, has_map, each_of}
 use Rattle.faces.specs.declared.types.Block.{Block}
-use Rattle.faces.proofs.Lists.{each_of}
 use Rattle.faces.proofs.Ways.{Way, east, west, north, south, up, down, opp, first, second, toward, normal, far, top, bot, bot-top, far-opp, height-far, rim, rectangle, seen, Made}
 use Rattle.faces.proofs.Sides.{on-far}
-use Rattle.faces.proofs.Integers.{same_yes, same-says}
+use Rattle.plane.proofs.Tests.{same_yes, same_says}
 use Rattle.faces.proofs.Sixfold.{all_ways_each}
 use Rattle.faces.proofs.Thickness.{Reaches}
 use Rattle.faces.proofs.Turns.{turn, turn-seen, spot, turns_positive}
@@ -56,30 +55,30 @@ crossing_all : (e : Way) → both_ways (λ f g. not (flat e f g)) (first e) (sec
 unfolding determinant same_z
 crossing_all = all_ways_each (λ e. both_ways (λ f g. not (flat e f g)) (first e) (second e)) refl
 
-flat-all : (e : Way) → (both_ways (flat e) (first e) (first e) && both_ways (flat e) (second e) (second e)) ≡ true
+flat_all : (e : Way) → (both_ways (flat e) (first e) (first e) && both_ways (flat e) (second e) (second e)) ≡ true
 unfolding determinant same_z
-flat-all = all_ways_each (λ e. both_ways (flat e) (first e) (first e) && both_ways (flat e) (second e) (second e)) refl
+flat_all = all_ways_each (λ e. both_ways (flat e) (first e) (first e) && both_ways (flat e) (second e) (second e)) refl
 
 -- ---- a corner
 same_no : (m n : ℤ) → not (same_z m n) ≡ true → m ≡ n → ⊥
 same_no m n h e = true≢false (sym (same_yes m n e) ∙ not-true (same_z m n) h)
 
-not-over : (f d h : ℤ) → h ≡ f -ℤ d → f ≤ℤ d → not (lt_z (pos 0) h) ≡ true
-not-over f d h e k = grind (arith, ints)
+not_over : (f d h : ℤ) → h ≡ f -ℤ d → f ≤ℤ d → not (lt_z (pos 0) h) ≡ true
+not_over f d h e k = grind (arith, ints)
 
 abbrev Under : ℤ → Way → Place → Type 0
 Under d g v = far g v ≤ℤ (d *ℤ pos v.w)
 
 not_above : (g : Way) (d : ℤ) (v : Place) → Under d g v → not (lt_z (pos 0) (height (toward g d) v)) ≡ true
-not_above g d v h = not-over (far g v) (d *ℤ pos v.w) (height (toward g d) v) (height-far g d v) h
+not_above g d v h = not_over (far g v) (d *ℤ pos v.w) (height (toward g d) v) (height-far g d v) h
 
 end_either : (s : Bool) (b : Block) (g : Way) → (end s b g ≡ top b g) ⊎ (end s b g ≡ bot b g)
 end_either true b g = inl refl
 end_either false b g = inr refl
 
-ends-under : (f h t s u : ℤ) → u ≡ neg_ℤ s → h ≡ neg_ℤ f → u <ℤ t → (f ≡ t) ⊎ (f ≡ u) → (f ≤ℤ t) × (h ≤ℤ s)
-ends-under f h t s u i j k (inl e) = (omega (arith, ints), omega (arith, ints))
-ends-under f h t s u i j k (inr e) = (omega (arith, ints), omega (arith, ints))
+ends_under : (f h t s u : ℤ) → u ≡ neg_ℤ s → h ≡ neg_ℤ f → u <ℤ t → (f ≡ t) ⊎ (f ≡ u) → (f ≤ℤ t) × (h ≤ℤ s)
+ends_under f h t s u i j k (inl e) = (omega (arith, ints), omega (arith, ints))
+ends_under f h t s u i j k (inr e) = (omega (arith, ints), omega (arith, ints))
 
 module _ (b : Block) (v : Place) (whole : v.w ≡ 1) where
   times_one : (n : ℤ) → n ≡ n *ℤ pos v.w
@@ -94,10 +93,10 @@ module _ (b : Block) (v : Place) (whole : v.w ≡ 1) where
   touches g true h = on-top g h
   touches g false h = on-top (opp g) (far-opp g v ∙ ap neg_ℤ (h ∙ bot-top b g) ∙ neg_ℤ-neg_ℤ (top b (opp g)))
 
-  under-both : (g : Way) (s : Bool) → Reaches b g → far g v ≡ end s b g → Under (top b g) g v × Under (top b (opp g)) (opp g) v
-  under-both g s r h =
+  under_both : (g : Way) (s : Bool) → Reaches b g → far g v ≡ end s b g → Under (top b g) g v × Under (top b (opp g)) (opp g) v
+  under_both g s r h =
       let c : (far g v ≡ top b g) ⊎ (far g v ≡ bot b g) = elim (end_either s b g) [ inl k ↦ inl (h ∙ k) | inr k ↦ inr (h ∙ k) ] in
-      let u = ends-under (far g v) (far (opp g) v) (top b g) (top b (opp g)) (bot b g) (bot-top b g) (far-opp g v) r c in
+      let u = ends_under (far g v) (far (opp g) v) (top b g) (top b (opp g)) (bot b g) (bot-top b g) (far-opp g v) r c in
       (subst (λ (n : ℤ). far g v ≤ℤ n) (times_one (top b g)) u.0, subst (λ (n : ℤ). far (opp g) v ≤ℤ n) (times_one (top b (opp g))) u.1)
 
 -- the planes of an edge: those across the first way, and those across the second
@@ -122,12 +121,12 @@ far_neg : (f h t u w : ℤ) → u ≡ neg_ℤ t → h ≡ neg_ℤ f → h ≡ t 
 far_neg = solve 5 (λ f h t u w. neg_e w · u := neg_e t ⇒ con (pos 1) · h := neg_e f ⇒ con (negsuc 0) · h := t :* w ⇒ f := u :* w) refl
 
 mark : (b : Block) (g : Way) (s : Bool) (v : Place) → on (side b g s) v ≡ true → Mark b g v (side b g s)
-mark b g true v h = record { which = true; is = refl; far_is = same-says (far g v) (top b g *ℤ pos v.w) (sym (on-far g (top b g) v) ∙ h) }
+mark b g true v h = record { which = true; is = refl; far_is = same_says (far g v) (top b g *ℤ pos v.w) (sym (on-far g (top b g) v) ∙ h) }
 mark b g false v h = record {
   which = false;
   is = refl;
   far_is = far_neg (far g v) (far (opp g) v) (top b (opp g)) (bot b g) (pos v.w) (bot-top b g) (far-opp g v)
-      (same-says (far (opp g) v) (top b (opp g) *ℤ pos v.w) (sym (on-far (opp g) (top b (opp g)) v) ∙ h));
+      (same_says (far (opp g) v) (top b (opp g) *ℤ pos v.w) (sym (on-far (opp g) (top b (opp g)) v) ∙ h));
 }
 
 marked : (b : Block) (e : Way) (v : Place) (r : Plane) → Has (rim b e) r → on r v ≡ true → Mark b (first e) v r ⊎ Mark b (second e) v r
@@ -184,8 +183,8 @@ module _ (b : Block) (e : Way) (f : Face) (made : Made b e f) where
       let w : v.w ≡ 1 = ap (λ (q : Place). q.w) h in
       let i = ap (λ (q : Place). q.y) h in
       let j = ap (λ (q : Place). q.z) h in
-      let k = under-both b v w (first e) s r1 i in
-      let l = under-both b v w (second e) t r2 j in
+      let k = under_both b v w (first e) s r1 i in
+      let l = under_both b v w (second e) t r2 j in
       record {
         real = omega arith;
         on_plane = subst (λ (p : Plane). on p v ≡ true) (sym made.plane) (on-top b v w e (ap (λ (q : Place). q.x) h));
@@ -206,7 +205,7 @@ module _ (b : Block) (e : Way) (f : Face) (made : Made b e f) where
   not_crossing : (g : Way) → both_ways (flat e) g g ≡ true → (v : Place) (p q : Plane) → Mark b g v p → Mark b g v q → determinant f.plane p q ≡ pos 0
   unfolding determinant
   not_crossing g h v p q m n =
-      let z = same-says _ (pos 0) (picked (flat e) g g h m.which n.which) in
+      let z = same_says _ (pos 0) (picked (flat e) g g h m.which n.which) in
       ap (λ (o : Plane). determinant o p q) made.plane
       ∙ sym (ap₂ (λ (r s : Plane). determinant (toward e (top b e)) r s) m.is n.is) ∙ z
 
@@ -214,7 +213,7 @@ module _ (b : Block) (e : Way) (f : Face) (made : Made b e f) where
   found : (v : Place) (p q : Plane) → on f.plane v ≡ true → Mark b (first e) v p → Mark b (second e) v q → (u : Place) × Has f.corners u × SamePlace u v
   found v p q o m n =
       let k = subst (λ (r : Plane). on r v ≡ true) made.plane o in
-      let a = same-says (far e v) (top b e *ℤ pos v.w) (sym (on-far e (top b e) v) ∙ k) in
+      let a = same_says (far e v) (top b e *ℤ pos v.w) (sym (on-far e (top b e) v) ∙ k) in
       let c = corner_seen m.which n.which in
       let s = same_whole (top b e) (end m.which b (first e)) (end n.which b (second e)) (seen e v) a m.far_is n.far_is in
       (c.0, c.1, same_seen e c.0 v (subst (λ (r : Place). SamePlace r (seen e v)) (sym c.2) s))
@@ -225,8 +224,8 @@ module _ (b : Block) (e : Way) (f : Face) (made : Made b e f) where
       let m = marked b e v c.first (has c.first c.has_first) c.on_first in
       let n = marked b e v c.second (has c.second c.has_second) c.on_second in
       elim m [
-        | inl x ↦ elim n [ inl y ↦ absurd (c.crossing (not_crossing (first e) (and_parts (both_ways (flat e) (first e) (first e)) _ (flat-all e)).0 v _ _ x y)) | inr y ↦ found v _ _ c.on_plane x y ]
-        | inr x ↦ elim n [ inl y ↦ found v _ _ c.on_plane y x | inr y ↦ absurd (c.crossing (not_crossing (second e) (and_parts (both_ways (flat e) (first e) (first e)) _ (flat-all e)).1 v _ _ x y)) ]
+        | inl x ↦ elim n [ inl y ↦ absurd (c.crossing (not_crossing (first e) (and_parts (both_ways (flat e) (first e) (first e)) _ (flat_all e)).0 v _ _ x y)) | inr y ↦ found v _ _ c.on_plane x y ]
+        | inr x ↦ elim n [ inl y ↦ found v _ _ c.on_plane y x | inr y ↦ absurd (c.crossing (not_crossing (second e) (and_parts (both_ways (flat e) (first e) (first e)) _ (flat_all e)).1 v _ _ x y)) ]
       ]
 
   -- the corners in their order

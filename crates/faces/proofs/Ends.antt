@@ -1,7 +1,7 @@
 -- Where a block ends: on each plane, in exactly the face that looks that way, or nowhere.
 --     faced                                         a plane of the solid, either way round, looks one of the six ways
 --     in_faces_way                                  a place is in no other face than the one that looks that way
---     ends_once, ends-none                          the solid ends at a place just if the place is in that face; nowhere, if nothing is left
+--     ends_once, ends_none                          the solid ends at a place just if the place is in that face; nowhere, if nothing is left
 use Rattle.std.proofs.Common.{◌≡◌, ◌<◌, Bool, true, false, cond, not, ◌&&◌, ◌⊎◌, ℤ, pos, ◌*ℤ◌, neg_ℤ, ◌<ℤ◌, sym, ap, ◌∙◌, ap₂, inl, inr, arith}
 use lib.IntN.{neg_ℤ-neg_ℤ}
 use lib.Signed.{lt_z, le_z}
@@ -19,9 +19,10 @@ use Rattle.solid.specs.Models.{in_faces, all_below}
 use Rattle.faces.specs.declared.types.Block.{Block}
 use Rattle.faces.specs.Blocks.{as_shape, cut, thick, block_faces, high_face, low_face, rolled_face}
 use Rattle.faces.proofs.Ways.{Way, east, west, north, south, up, down, opp, first, second, toward, normal, far, top, bot, bot-top, top-cut, turned-toward, rim}
-use Rattle.faces.proofs.Sides.{on-far, on-at, below-same, below-opp, below-across, above_same, above_opp, above_across}
-use Rattle.faces.proofs.Integers.{same-says, lt_min, le_min}
-use Rattle.faces.proofs.Sixfold.{across, all_ways_split, across-same, across_each}
+use Rattle.faces.proofs.Sides.{on-far, on_at, below_same, below_opp, below_across, above_same, above_opp, above_across}
+use Rattle.plane.proofs.Tests.{same_says}
+use Rattle.faces.proofs.Integers.{lt_min, le_min}
+use Rattle.faces.proofs.Sixfold.{across, all_ways_split, across_same, across_each}
 use Rattle.faces.proofs.Walls.{by-solid, has_solid}
 use Rattle.faces.proofs.Thickness.{Reaches, way_thick, squeezed}
 use Rattle.faces.proofs.Pieces.{under, below_both}
@@ -55,7 +56,7 @@ in_faces_way b down d q = omega arith
 -- ---- the value just below and just above a place on a plane that looks a way
 module _ (b : Block) (e : Way) (d : ℤ) (q : Place) (real : 0 < q.w) (met : on (toward e d) q ≡ true) where
   pub exact : far e q ≡ d *ℤ pos q.w
-  exact = same-says (far e q) (d *ℤ pos q.w) (sym (on-far e d q) ∙ met)
+  exact = same_says (far e q) (d *ℤ pos q.w) (sym (on-far e d q) ∙ met)
 
   -- all that is said of the planes, by the ways they look
   three : (f : Plane → Bool) (g h : ℤ → Bool) →
@@ -68,10 +69,10 @@ module _ (b : Block) (e : Way) (d : ℤ) (q : Place) (real : 0 < q.w) (met : on 
       by-solid f b ∙ all_ways_split e w
       ∙ ap₂ ◌&&◌ (ap₂ ◌&&◌ (a (pos reach)) (a (top b e)) ∙ u (top b e) (pos reach) ∙ ap g (sym (top-cut b e)))
       (ap₂ ◌&&◌ (ap₂ ◌&&◌ (o (pos reach)) (o (top b (opp e))) ∙ v (top b (opp e)) (pos reach) ∙ ap h (sym (top-cut b (opp e))))
-      (across-same e w (under (cut b) q) (λ k z. ap₂ ◌&&◌ (s k (pos reach) z) (s k (top b k) z) ∙ below_both q real k (top b k) (pos reach) ∙ ap (λ t. below (toward k t) q) (sym (top-cut b k)))))
+      (across_same e w (under (cut b) q) (λ k z. ap₂ ◌&&◌ (s k (pos reach) z) (s k (top b k) z) ∙ below_both q real k (top b k) (pos reach) ∙ ap (λ t. below (toward k t) q) (sym (top-cut b k)))))
 
-  value-below : by (just_below (toward e d) q) (solid (as_shape b)) ≡ (le_z d (top (cut b) e) && (lt_z (neg_ℤ d) (top (cut b) (opp e)) && across e (under (cut b) q)))
-  value-below = three (just_below (toward e d) q) (le_z d) (lt_z (neg_ℤ d)) (below-same e d q real exact) (below-opp e d q real exact) (below-across e d q real exact) (le_min d) (lt_min (neg_ℤ d))
+  value_below : by (just_below (toward e d) q) (solid (as_shape b)) ≡ (le_z d (top (cut b) e) && (lt_z (neg_ℤ d) (top (cut b) (opp e)) && across e (under (cut b) q)))
+  value_below = three (just_below (toward e d) q) (le_z d) (lt_z (neg_ℤ d)) (below_same e d q real exact) (below_opp e d q real exact) (below_across e d q real exact) (le_min d) (lt_min (neg_ℤ d))
 
   value_above : by (just_above (toward e d) q) (solid (as_shape b)) ≡ (lt_z d (top (cut b) e) && (le_z (neg_ℤ d) (top (cut b) (opp e)) && across e (under (cut b) q)))
   value_above = three (just_above (toward e d) q) (lt_z d) (le_z (neg_ℤ d)) (above_same e d q real exact) (above_opp e d q real exact) (above_across e d q real exact) (lt_min d) (le_min (neg_ℤ d))
@@ -85,15 +86,15 @@ module _ (b : Block) (e : Way) (d : ℤ) (q : Place) (real : 0 < q.w) (met : on 
   unfolding ends all_below
   ends_once h =
       let t = top (cut b) in
-      ap₂ (λ x y. x && not y) value-below value_above
+      ap₂ (λ x y. x && not y) value_below value_above
       ∙ at_top (t e) (t (opp e)) (bot (cut b) e) (across e (under (cut b) q)) (bot-top (cut b) e) h
-      ∙ ap (λ x. x && across e (under (cut b) q)) (sym (on-at q real e d exact (t e)))
+      ∙ ap (λ x. x && across e (under (cut b) q)) (sym (on_at q real e d exact (t e)))
 
   -- where something is just below, the block is thick
   held_thick : by (just_below (toward e d) q) (solid (as_shape b)) ≡ true → thick (cut b) ≡ true
   held_thick h =
       let u = under (cut b) q in
-      let i = and_parts _ _ (sym value-below ∙ h) in
+      let i = and_parts _ _ (sym value_below ∙ h) in
       let j = and_parts _ _ i.1 in
       let k = across_each e u j.1 in
       way_thick (cut b) e
@@ -104,9 +105,9 @@ module _ (b : Block) (e : Way) (d : ℤ) (q : Place) (real : 0 < q.w) (met : on 
       own : (t s u : ℤ) → u ≡ neg_ℤ s → le_z d t ≡ true → lt_z (neg_ℤ d) s ≡ true → u <ℤ t
       own t s u i h k = grind (arith, ints)
 
-  pub ends-none : thick (cut b) ≡ false → ends (solid (as_shape b)) (toward e d) q ≡ false
+  pub ends_none : thick (cut b) ≡ false → ends (solid (as_shape b)) (toward e d) q ≡ false
   unfolding ends
-  ends-none none = elim (cases_Bool (by (just_below (toward e d) q) (solid (as_shape b)))) [
+  ends_none none = elim (cases_Bool (by (just_below (toward e d) q) (solid (as_shape b)))) [
     | inl h ↦ absurd (true≢false (sym (held_thick h) ∙ none))
     | inr h ↦ and_left _ _ h
   ]

@@ -11,19 +11,18 @@ use Rattle.plane.specs.Limits.{SmallPlace}
 use Rattle.plane.specs.Planes.{same_z, on, along, same_way, turned}
 use Rattle.solid.specs.Shapes.{solid, planes, Has, ClearBut, ends}
 use Rattle.solid.specs.Models.{Face, Right, RightFaces, RightCorners, in_faces, all_below, Ours}
-use Rattle.solid.proofs.Members.{has_none, map_has}
+use Rattle.solid.proofs.Members.{has_none, map_has, each_of}
 use Rattle.faces.specs.declared.types.Block.{Block}
 use Rattle.faces.specs.Blocks.{as_shape, cut, thick, left_of, model_of, block_faces, rolled_back, FitsBlock, FitsFace}
-use Rattle.faces.proofs.Lists.{each_of}
 use Rattle.faces.proofs.Ways.{Way, east, west, north, south, up, down, ways, opp, first, second, toward, normal, far, top, bot, bot-top, far-opp, face_at, faces_ways, Made, made}
 use Rattle.faces.proofs.Sides.{below-far, on-far}
-use Rattle.faces.proofs.Integers.{lt_says, same_yes}
+use Rattle.plane.proofs.Tests.{lt_says, same_yes}
 use Rattle.faces.proofs.Sixfold.{all_ways_split, all_ways_each, Four, each_across}
 use Rattle.faces.proofs.Walls.{has_solid, solid_has}
-use Rattle.faces.proofs.Thickness.{thick_way, cut_fits, below-inside, off_inside}
+use Rattle.faces.proofs.Thickness.{thick_way, cut_fits, below_inside, off_inside}
 use Rattle.faces.proofs.Ranges.{high_fits, low_fits, back_fits, rolled_face_fits}
 use Rattle.faces.proofs.Pieces.{under, right_piece, right_none}
-use Rattle.faces.proofs.Ends.{faced, in_faces_way, ends_once, ends-none}
+use Rattle.faces.proofs.Ends.{faced, in_faces_way, ends_once, ends_none}
 use Rattle.faces.proofs.Corners.{right_corners}
 
 -- ---- ranges
@@ -41,8 +40,8 @@ face_fits b f down = rolled_face_fits _ (rolled_face_fits _ (low_fits (rolled_ba
 half_ways : (f h t s u : ℤ) → u ≡ neg_ℤ s → h ≡ neg_ℤ f → f ≡ u +ℤ t → u <ℤ t → (f <ℤ (t *ℤ pos 2)) × (h <ℤ (s *ℤ pos 2))
 half_ways f h t s u i j k l = (omega (arith, ints), omega (arith, ints))
 
-at-end : (f h t s u : ℤ) → u ≡ neg_ℤ s → h ≡ neg_ℤ f → f ≡ t +ℤ t → u <ℤ t → (f ≡ t *ℤ pos 2) × (h <ℤ (s *ℤ pos 2))
-at-end f h t s u i j k l = (omega (arith, ints), omega (arith, ints))
+at_end : (f h t s u : ℤ) → u ≡ neg_ℤ s → h ≡ neg_ℤ f → f ≡ t +ℤ t → u <ℤ t → (f ≡ t *ℤ pos 2) × (h <ℤ (s *ℤ pos 2))
+at_end f h t s u i j k l = (omega (arith, ints), omega (arith, ints))
 
 same_self : (e : Way) → same_way (normal e) (normal e) ≡ true
 unfolding same_way same_z along
@@ -59,17 +58,17 @@ module _ (b : Block) (fits : FitsBlock b) (e : Way) (f : Face) (m : Made b e f) 
   doubled P n = subst (λ (k : ℕ). P (n *ℤ pos k)) (sym scale)
 
   ahead : (far e q ≡ top b e *ℤ pos 2) × (far (opp e) q <ℤ (top b (opp e) *ℤ pos 2))
-  ahead = at-end (far e q) (far (opp e) q) (top b e) (top b (opp e)) (bot b e) (bot-top b e) (far-opp e q) (ap (λ (p : Place). p.x) m.place ∙ m.twice) (thick_way b fits e)
+  ahead = at_end (far e q) (far (opp e) q) (top b e) (top b (opp e)) (bot b e) (bot-top b e) (far-opp e q) (ap (λ (p : Place). p.x) m.place ∙ m.twice) (thick_way b fits e)
 
-  across-both : (g : Way) → far g q ≡ bot b g +ℤ top b g → (under b q g ≡ true) × (under b q (opp g) ≡ true)
-  across-both g h =
+  across_both : (g : Way) → far g q ≡ bot b g +ℤ top b g → (under b q g ≡ true) × (under b q (opp g) ≡ true)
+  across_both g h =
       let k = half_ways (far g q) (far (opp g) q) (top b g) (top b (opp g)) (bot b g) (bot-top b g) (far-opp g q) h (thick_way b fits g) in
-      (below-inside (top b g) g q (doubled (λ n. far g q <ℤ n) (top b g) k.0), below-inside (top b (opp g)) (opp g) q (doubled (λ n. far (opp g) q <ℤ n) (top b (opp g)) k.1))
+      (below_inside (top b g) g q (doubled (λ n. far g q <ℤ n) (top b g) k.0), below_inside (top b (opp g)) (opp g) q (doubled (λ n. far (opp g) q <ℤ n) (top b (opp g)) k.1))
 
   within : Four e (λ g. under b q g ≡ true)
   within =
-      let i = across-both (first e) (ap (λ (p : Place). p.y) m.place) in
-      let j = across-both (second e) (ap (λ (p : Place). p.z) m.place) in
+      let i = across_both (first e) (ap (λ (p : Place). p.y) m.place) in
+      let j = across_both (second e) (ap (λ (p : Place). p.z) m.place) in
       (i.0, i.1, j.0, j.1)
 
   face_inside : all_below f.edges f.place ≡ true
@@ -81,7 +80,7 @@ module _ (b : Block) (fits : FitsBlock b) (e : Way) (f : Face) (m : Made b e f) 
   alike_or_below =
       let t = λ (g : Way). same_way (normal e) (normal g) || under b q g in
       let o = λ (g : Way) (h : under b q g ≡ true). or_right (same_way (normal e) (normal g)) (under b q g) h in
-      let a = below-inside (top b (opp e)) (opp e) q (doubled (λ n. far (opp e) q <ℤ n) (top b (opp e)) ahead.1) in
+      let a = below_inside (top b (opp e)) (opp e) q (doubled (λ n. far (opp e) q <ℤ n) (top b (opp e)) ahead.1) in
       let w = within in
       all_ways_each t (all_ways_split e t ∙ and_from (t e) _ (or_left _ _ (same_self e)) (and_from (t (opp e)) _ (o (opp e) a)
       (each_across e t (o (first e) w.0, o (opp (first e)) w.1, o (second e) w.2, o (opp (second e)) w.3))))
@@ -143,7 +142,7 @@ module _ (b : Block) where
     unfolding in_faces
     no_faces = record {
       once = λ p q h c. let w = faced b p h in let k = subst (λ (r : Plane). on r q ≡ true) (sym w.is) c.on_it in
-          subst (λ (r : Plane). ◌≡◌ {A = ℕ} 0 (cond (ends (solid (as_shape b)) r q) 1 0)) w.is (sym (ap (λ t. cond t 1 0) (ends-none b w.way w.end q c.real k none)));
+          subst (λ (r : Plane). ◌≡◌ {A = ℕ} 0 (cond (ends (solid (as_shape b)) r q) 1 0)) w.is (sym (ap (λ t. cond t 1 0) (ends_none b w.way w.end q c.real k none)));
       ours = λ f h. absurd (has_none f h);
       small = λ f h. absurd (has_none f h);
       inside = λ f h. absurd (has_none f h);

@@ -1,15 +1,15 @@
 -- Tests of integers.
---     lt_yes, lt_no, lt_says, same_yes, same-says   what a test says, and what says it
 --     lt_difference, same_difference                of a difference and 0
 --     le_or, lt_or                                  one test by another
 --     lt_min, le_min                                of the lesser of two
---     lt_scaled, same-scaled                        with a positive factor
-use Rattle.std.proofs.Common.{◌≡◌, ℕ, ◌<◌, true, false, cond, not, ◌&&◌, ℤ, pos, ◌-ℤ◌, ◌*ℤ◌, ◌≤ℤ◌, ◌<ℤ◌, sym, ap, ◌∙◌, ap₂, arith}
+--     lt_scaled, same_scaled                        with a positive factor
+use Rattle.std.proofs.Common.{◌≡◌, ℕ, ◌<◌, true, false, cond, not, ◌&&◌, ℤ, pos, ◌-ℤ◌, ◌*ℤ◌, ◌<ℤ◌, sym, ap, ◌∙◌, ap₂, arith}
 use lib.Signed.{lt_z, le_z}
 use Rattle.std.specs.Int.{int_min}
 use Rattle.std.proofs.lemmas.Int.{ints, clamps, by_lt_z}
 use Rattle.arith.proofs.Order.{mul_lt, mul_le}
 use Rattle.plane.specs.Planes.{same_z}
+use Rattle.plane.proofs.Tests.{lt_yes, lt_no}
 
 pub lt_difference : (a b : ℤ) → lt_z (a -ℤ b) (pos 0) ≡ lt_z a b
 lt_difference a b = grind (arith, ints)
@@ -33,23 +33,6 @@ lt_min a b c = grind (arith, ints, clamps)
 pub le_min : (a b c : ℤ) → (le_z a c && le_z a b) ≡ le_z a (int_min b c)
 le_min a b c = grind (arith, ints, clamps)
 
-pub lt_yes : (a b : ℤ) → a <ℤ b → lt_z a b ≡ true
-lt_yes a b h = grind (arith, ints)
-
-pub lt_no : (a b : ℤ) → b ≤ℤ a → lt_z a b ≡ false
-lt_no a b h = grind (arith, ints)
-
-pub lt_says : (a b : ℤ) → lt_z a b ≡ true → a <ℤ b
-lt_says a b h = grind (arith, ints)
-
-pub same_yes : (a b : ℤ) → a ≡ b → same_z a b ≡ true
-unfolding same_z
-same_yes a b h = grind (arith, ints)
-
-pub same-says : (a b : ℤ) → same_z a b ≡ true → a ≡ b
-unfolding same_z
-same-says a b h = grind (arith, ints)
-
 le_not : (a b : ℤ) → le_z a b ≡ not (lt_z b a)
 le_not a b = grind (arith, ints)
 
@@ -67,6 +50,6 @@ module _ (w : ℕ) (real : 0 < w) where
   le_scaled : (a b : ℤ) → le_z (a *ℤ pos w) (b *ℤ pos w) ≡ le_z a b
   le_scaled a b = le_not (a *ℤ pos w) (b *ℤ pos w) ∙ ap not (lt_scaled b a) ∙ sym (le_not a b)
 
-  pub same-scaled : (a b : ℤ) → same_z (a *ℤ pos w) (b *ℤ pos w) ≡ same_z a b
+  pub same_scaled : (a b : ℤ) → same_z (a *ℤ pos w) (b *ℤ pos w) ≡ same_z a b
   unfolding same_z
-  same-scaled a b = ap₂ ◌&&◌ (le_scaled a b) (le_scaled b a)
+  same_scaled a b = ap₂ ◌&&◌ (le_scaled a b) (le_scaled b a)

@@ -1,4 +1,3 @@
-pub mod Lists
 pub mod Built
 pub mod Integers
 pub mod Ways

@@ -13,16 +13,15 @@ use Rattle.plane.specs.Limits.{reach, SmallPlace}
 use Rattle.plane.specs.Planes.{below, on}
 use Rattle.solid.specs.Shapes.{box, holds, planes, solid, Has, Clear}
 use Rattle.solid.specs.Models.{Piece, RightPieces, in_pieces, all_below, Ours}
-use Rattle.solid.proofs.Members.{has_none, map_has}
+use Rattle.solid.proofs.Members.{has_none, map_has, each_of}
 use Rattle.faces.specs.declared.types.Block.{Block}
 use Rattle.faces.specs.Blocks.{as_shape, cut, thick, block_piece}
-use Rattle.faces.proofs.Lists.{each_of}
 use Rattle.faces.proofs.Ways.{Way, east, west, north, south, up, down, ways, opp, toward, far, top, bot, top-cut, planes-ways}
 use Rattle.faces.proofs.Sides.{below-far}
 use Rattle.faces.proofs.Integers.{lt_min, lt_scaled}
-use Rattle.faces.proofs.Sixfold.{all_ways, all_ways_split, all_ways_each, each_all_ways, all_ways-same}
+use Rattle.faces.proofs.Sixfold.{all_ways, all_ways_split, all_ways_each, each_all_ways, all_ways_same}
 use Rattle.faces.proofs.Walls.{by-solid, has_solid, solid_has}
-use Rattle.faces.proofs.Thickness.{way_thick, thick_way, cut_fits, squeezed, ShortOf, below-inside, off_inside}
+use Rattle.faces.proofs.Thickness.{way_thick, thick_way, cut_fits, squeezed, ShortOf, below_inside, off_inside}
 use Rattle.faces.proofs.Ranges.{piece_small}
 
 -- below the planes that are left
@@ -48,7 +47,7 @@ module _ (q : Place) (real : 0 < q.w) where
   unfolding holds
   holds-solid b =
       by-solid (λ p. below p q) b
-      ∙ all_ways-same (λ e. below (toward e (pos reach)) q && below (toward e (top b e)) q) (under (cut b) q)
+      ∙ all_ways_same (λ e. below (toward e (pos reach)) q && below (toward e (top b e)) q) (under (cut b) q)
       (λ e. below_both e (top b e) (pos reach) ∙ ap (λ t. below (toward e t) q) (sym (top-cut b e)))
 
   pub solid-thick : (b : Block) → holds (solid (as_shape b)) q ≡ true → thick (cut b) ≡ true
@@ -57,9 +56,9 @@ module _ (q : Place) (real : 0 < q.w) where
       let s = λ (e : Way). squeezed (cut b) q real e (u e) (u (opp e)) in
       way_thick (cut b) east (s east) (s north) (s up)
 
-pub below-planes : (b : Block) (q : Place) → all_below (planes (as_shape b)) q ≡ all_ways (under b q)
+pub below_planes : (b : Block) (q : Place) → all_below (planes (as_shape b)) q ≡ all_ways (under b q)
 unfolding planes box all_below
-below-planes b q = sym (all_ways_split east (under b q))
+below_planes b q = sym (all_ways_split east (under b q))
 
 -- ---- the middle
 swap_neg : (m n : ℤ) → neg_ℤ (m +ℤ n) ≡ neg_ℤ n +ℤ neg_ℤ m
@@ -88,7 +87,7 @@ module _ (b : Block) where
     unfolding block_piece
     piece_inside =
         let m = (block_piece (cut b)).place in
-        below-planes (cut b) m ∙ each_all_ways (under (cut b) m) (λ e. below-inside (top (cut b) e) e m (inner e))
+        below_planes (cut b) m ∙ each_all_ways (under (cut b) m) (λ e. below_inside (top (cut b) e) e m (inner e))
 
     piece_clear : Clear (solid (as_shape b)) (block_piece (cut b)).place
     unfolding block_piece
@@ -110,7 +109,7 @@ module _ (b : Block) where
     pub right_piece : RightPieces (solid (as_shape b)) (block_piece (cut b) ∷ [])
     unfolding in_pieces block_piece
     right_piece = record {
-      once = λ q k. add-zero _ ∙ ap (λ t. cond t 1 0) (below-planes (cut b) q ∙ sym (holds-solid q k.real b));
+      once = λ q k. add-zero _ ∙ ap (λ t. cond t 1 0) (below_planes (cut b) q ∙ sym (holds-solid q k.real b));
       ours = only (λ d. Ours (solid (as_shape b)) d.planes) piece_ours;
       small = only (λ d. SmallPlace d.place) (piece_small (cut b) (cut_fits b some));
       inside = only (λ d. all_below d.planes d.place ≡ true) piece_inside;
@@ -118,8 +117,8 @@ module _ (b : Block) where
     }
 
   module _ (none : thick (cut b) ≡ false) where
-    pub holds-none : (q : Place) → 0 < q.w → holds (solid (as_shape b)) q ≡ false
-    holds-none q real = elim (cases_Bool (holds (solid (as_shape b)) q)) [
+    pub holds_none : (q : Place) → 0 < q.w → holds (solid (as_shape b)) q ≡ false
+    holds_none q real = elim (cases_Bool (holds (solid (as_shape b)) q)) [
       | inl h ↦ absurd (true≢false (sym (solid-thick q real b h) ∙ none))
       | inr h ↦ h
     ]
@@ -127,7 +126,7 @@ module _ (b : Block) where
     pub right_none : RightPieces (solid (as_shape b)) []
     unfolding in_pieces
     right_none = record {
-      once = λ q k. sym (ap (λ t. cond t 1 0) (holds-none q k.real));
+      once = λ q k. sym (ap (λ t. cond t 1 0) (holds_none q k.real));
       ours = λ d h. absurd (has_none d h);
       small = λ d h. absurd (has_none d h);
       inside = λ d h. absurd (has_none d h);

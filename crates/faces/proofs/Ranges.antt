@@ -26,8 +26,8 @@ module _ (m n : ℤ) (s : Span m n) where
   pub high_short : Short n reach
   high_short = record { size = omega (arith, ints) }
 
-sum-short : {m n : ℤ} → Short m reach → Short n reach → Short (m +ℤ n) coordinate_limit
-sum-short s t = short_more coordinate_limit (is_short (is_add (is_self s) (is_self t))) tt
+sum_short : {m n : ℤ} → Short m reach → Short n reach → Short (m +ℤ n) coordinate_limit
+sum_short s t = short_more coordinate_limit (is_short (is_add (is_self s) (is_self t))) tt
 
 -- ---- planes
 level : (a b c d : ℤ) → nat_abs a + nat_abs b + nat_abs c ≡ 1 → Short d reach → FitsPlane (plane a b c d)
@@ -43,16 +43,16 @@ unit : (e : Way) → nat_abs (normal e).a + nat_abs (normal e).b + nat_abs (norm
 unit e = eqb-true _ 1 (all_ways_each (λ f. eqb (nat_abs (normal f).a + nat_abs (normal f).b + nat_abs (normal f).c) 1) refl e)
 
 module _ (b : Block) (f : FitsBlock b) where
-  top-short : (e : Way) → Short (top b e) reach
-  top-short east = high_short b.x0 b.x1 f.x
-  top-short west = short_neg (low_short b.x0 b.x1 f.x)
-  top-short north = high_short b.y0 b.y1 f.y
-  top-short south = short_neg (low_short b.y0 b.y1 f.y)
-  top-short up = high_short b.z0 b.z1 f.z
-  top-short down = short_neg (low_short b.z0 b.z1 f.z)
+  top_short : (e : Way) → Short (top b e) reach
+  top_short east = high_short b.x0 b.x1 f.x
+  top_short west = short_neg (low_short b.x0 b.x1 f.x)
+  top_short north = high_short b.y0 b.y1 f.y
+  top_short south = short_neg (low_short b.y0 b.y1 f.y)
+  top_short up = high_short b.z0 b.z1 f.z
+  top_short down = short_neg (low_short b.z0 b.z1 f.z)
 
   wall_fits : (e : Way) → FitsPlane (toward e (top b e))
-  wall_fits e = level (normal e).a (normal e).b (normal e).c (top b e) (unit e) (top-short e)
+  wall_fits e = level (normal e).a (normal e).b (normal e).c (top b e) (unit e) (top_short e)
 
   pub piece_fits : AllByRecursion FitsPlane (block_piece b).planes
   unfolding block_piece planes box
@@ -60,7 +60,7 @@ module _ (b : Block) (f : FitsBlock b) where
 
 -- ---- places
 middle : {i j k l m n : ℤ} → Short i reach → Short j reach → Short k reach → Short l reach → Short m reach → Short n reach → SmallPlace (at (i +ℤ j) (k +ℤ l) (m +ℤ n) 2)
-middle i j k l m n = record { x = sum-short i j; y = sum-short k l; z = sum-short m n; w = lit≤ tt; real = lit< tt }
+middle i j k l m n = record { x = sum_short i j; y = sum_short k l; z = sum_short m n; w = lit≤ tt; real = lit< tt }
 
 corner : {i j k : ℤ} → Short i reach → Short j reach → Short k reach → SmallPlace (at i j k 1)
 corner i j k = record { x = short_more coordinate_limit i tt; y = short_more coordinate_limit j tt; z = short_more coordinate_limit k tt; w = lit≤ tt; real = lit< tt }

@@ -1,12 +1,12 @@
 -- What is so of each of the six ways, as one test.
 --     all_ways_each, each_all_ways                  the test as said of each way
 --     all_ways_split                                the test with one way first, the opposite one, and the ways across
---     all_ways-same, all_ways-both                  tests alike, and two at once
---     across_each, each_across, across-same         the same for the four ways across
+--     all_ways_same, all_ways_both                  tests alike, and two at once
+--     across_each, each_across, across_same         the same for the four ways across
 use Rattle.std.proofs.Common.{◌≡◌, Bool, true, ◌&&◌, pos, sym, refl, ap, ◌∙◌, ap₂, arith}
 use Rattle.std.proofs.lemmas.Bool.{and_parts, and_from}
 use Rattle.plane.specs.Planes.{same_z, along}
-use Rattle.faces.proofs.Integers.{same-says}
+use Rattle.plane.proofs.Tests.{same_says}
 use Rattle.faces.proofs.Ways.{Way, east, west, north, south, up, down, opp, first, second, normal}
 
 abbrev pub all_ways : (Way → Bool) → Bool
@@ -31,11 +31,11 @@ each_all_ways g h =
     let a : (g east ≡ true) × (g west ≡ true) × (g north ≡ true) × (g south ≡ true) × (g up ≡ true) × (g down ≡ true) = (h east, h west, h north, h south, h up, h down) in
     grind arith
 
-pub all_ways-both : (g h : Way → Bool) → (all_ways g && all_ways h) ≡ all_ways (λ e. g e && h e)
-all_ways-both g h = grind arith
+pub all_ways_both : (g h : Way → Bool) → (all_ways g && all_ways h) ≡ all_ways (λ e. g e && h e)
+all_ways_both g h = grind arith
 
-pub all_ways-same : (g h : Way → Bool) → ((e : Way) → g e ≡ h e) → all_ways g ≡ all_ways h
-all_ways-same g h f = ap₂ ◌&&◌ (ap₂ ◌&&◌ (ap₂ ◌&&◌ (f east) (f west)) (ap₂ ◌&&◌ (f north) (f south))) (ap₂ ◌&&◌ (f up) (f down))
+pub all_ways_same : (g h : Way → Bool) → ((e : Way) → g e ≡ h e) → all_ways g ≡ all_ways h
+all_ways_same g h f = ap₂ ◌&&◌ (ap₂ ◌&&◌ (ap₂ ◌&&◌ (f east) (f west)) (ap₂ ◌&&◌ (f north) (f south))) (ap₂ ◌&&◌ (f up) (f down))
 
 -- ---- the four ways across
 -- what is so of each of them
@@ -59,8 +59,8 @@ unfolding along same_z
 square e = across_each e (λ f. same_z (along (normal e) (normal f)) (pos 0)) (all_ways_each (λ g. across g (λ f. same_z (along (normal g) (normal f)) (pos 0))) refl e)
 
 -- and what is so of all that are square to it is so of them
-pub across-same : (e : Way) (g h : Way → Bool) → ((f : Way) → along (normal e) (normal f) ≡ pos 0 → g f ≡ h f) → across e g ≡ across e h
-across-same e g h f =
+pub across_same : (e : Way) (g h : Way → Bool) → ((f : Way) → along (normal e) (normal f) ≡ pos 0 → g f ≡ h f) → across e g ≡ across e h
+across_same e g h f =
     let s = square e in
-    let a = λ (k : Way) (t : same_z (along (normal e) (normal k)) (pos 0) ≡ true). f k (same-says (along (normal e) (normal k)) (pos 0) t) in
+    let a = λ (k : Way) (t : same_z (along (normal e) (normal k)) (pos 0) ≡ true). f k (same_says (along (normal e) (normal k)) (pos 0) t) in
     ap₂ ◌&&◌ (a (first e) s.0) (ap₂ ◌&&◌ (a (opp (first e)) s.1) (ap₂ ◌&&◌ (a (second e) s.2) (ap (λ x. x && true) (a (opp (second e)) s.3))))

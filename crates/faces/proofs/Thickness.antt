@@ -2,7 +2,7 @@
 --     way_thick, thick_way                          the test, and what it says of each way
 --     cut_fits, left_fits                           what is left in the workshop is in range
 --     squeezed                                      a place between two planes across a way
---     below-inside, off_inside                      a place that is less far than the block reaches
+--     below_inside, off_inside                      a place that is less far than the block reaches
 use Rattle.std.proofs.Common.{◌≡◌, ◌<◌, Bool, true, false, cond, ℤ, pos, ◌*ℤ◌, neg_ℤ, ◌≤ℤ◌, ◌<ℤ◌, IfSome, Some, None, sym, refl, ap, ◌∙◌, arith}
 use lib.Signed.{lt_z}
 use Rattle.std.proofs.lemmas.Int.{ints, clamps}
@@ -15,7 +15,8 @@ use Rattle.faces.specs.declared.types.Block.{Block}
 use Rattle.faces.specs.Blocks.{low_end, high_end, cut, thick, left_of, Span, FitsBlock}
 use Rattle.faces.proofs.Ways.{Way, east, west, north, south, up, down, opp, first, second, toward, far, top, bot, bot-top, far-opp}
 use Rattle.faces.proofs.Sides.{below-far, on-far}
-use Rattle.faces.proofs.Integers.{lt_yes, lt_says, lt_scaled}
+use Rattle.plane.proofs.Tests.{lt_yes, lt_says}
+use Rattle.faces.proofs.Integers.{lt_scaled}
 
 flip : (m n : ℤ) → neg_ℤ n <ℤ neg_ℤ m → m <ℤ n
 flip m n h = omega (arith, ints)
@@ -48,15 +49,15 @@ module _ (b : Block) where
   thick_way f up = f.z.thick
   thick_way f down = turn _ _ f.z.thick
 
-cut-span : (m n : ℤ) → lt_z (low_end m) (high_end n) ≡ true → Span (low_end m) (high_end n)
-cut-span m n h = record { low = omega (arith, ints, clamps); thick = lt_says (low_end m) (high_end n) h; high = omega (arith, ints, clamps) }
+cut_span : (m n : ℤ) → lt_z (low_end m) (high_end n) ≡ true → Span (low_end m) (high_end n)
+cut_span m n h = record { low = omega (arith, ints, clamps); thick = lt_says (low_end m) (high_end n) h; high = omega (arith, ints, clamps) }
 
 pub cut_fits : (b : Block) → thick (cut b) ≡ true → FitsBlock (cut b)
 unfolding thick cut
 cut_fits b h =
     let k = and_parts _ _ h in
     let l = and_parts _ _ k.1 in
-    record { x = cut-span b.x0 b.x1 k.0; y = cut-span b.y0 b.y1 l.0; z = cut-span b.z0 b.z1 l.1 }
+    record { x = cut_span b.x0 b.x1 k.0; y = cut_span b.y0 b.y1 l.0; z = cut_span b.z0 b.z1 l.1 }
 
 -- what is left, if anything
 pub left_fits : (b : Block) → IfSome (left_of b) FitsBlock
@@ -89,8 +90,8 @@ unfolding same_z
 apart a b c h k = grind (arith, ints)
 
 module _ (n : ℤ) (e : Way) (q : Place) (less : ShortOf n e q) where
-  pub below-inside : below (toward e n) q ≡ true
-  below-inside = below-far e n q ∙ lt_yes _ _ less
+  pub below_inside : below (toward e n) q ≡ true
+  below_inside = below-far e n q ∙ lt_yes _ _ less
 
   pub off_inside : (d : ℤ) → n ≤ℤ d → on (toward e d) q ≡ false
   off_inside d h = on-far e d q ∙ apart (far e q) (n *ℤ pos q.w) (d *ℤ pos q.w) less (mul_le n d (pos q.w) h (omega (arith, ints)))

@@ -11,11 +11,11 @@ use Rattle.solid.proofs.Members.{has_part, has_left, has_right, has_map, map_has
 use Rattle.faces.specs.declared.types.Block.{Block}
 use Rattle.faces.specs.Blocks.{as_shape, cut}
 use Rattle.faces.proofs.Ways.{Way, east, west, north, south, up, down, ways, toward, top, top-cut}
-use Rattle.faces.proofs.Sixfold.{all_ways, all_ways-both}
+use Rattle.faces.proofs.Sixfold.{all_ways, all_ways_both}
 
 pub by-solid : (f : Plane → Bool) (b : Block) → by f (solid (as_shape b)) ≡ all_ways (λ e. f (toward e (pos reach)) && f (toward e (top b e)))
 unfolding by solid workshop box
-by-solid f b = all_ways-both (λ e. f (toward e (pos reach))) (λ e. f (toward e (top b e)))
+by-solid f b = all_ways_both (λ e. f (toward e (pos reach))) (λ e. f (toward e (top b e)))
 
 -- the planes of a box, with the ways they look
 abbrev pub listed : (Way → ℤ) → List Plane

@@ -150,16 +150,16 @@ in_num c b s bs a =
 
 -- words: bytes so far are a word's, or none
 
-pub alnum-word : (w : List ℕ) → is_word w ≡ true → all alnum w ≡ true
-alnum-word [] h = refl
-alnum-word (b ∷ w) h =
+pub alnum_word : (w : List ℕ) → is_word w ≡ true → all alnum w ≡ true
+alnum_word [] h = refl
+alnum_word (b ∷ w) h =
     let p = and_parts (letter b) (all alnum w && leb (length w) 11) h in
     let q = and_parts (all alnum w) (leb (length w) 11) p.1 in
     and_from (alnum b) (all alnum w) (or_left (letter b) (digit b) p.0) q.0
 
 pub alnum_good : (w : List ℕ) → Good w → all alnum w ≡ true
 alnum_good [] h = refl
-alnum_good (b ∷ w) h = alnum-word (b ∷ w) h
+alnum_good (b ∷ w) h = alnum_word (b ∷ w) h
 
 all_front : (xs : List ℕ) (b : ℕ) (ys : List ℕ) → all alnum (xs ++ b ∷ ys) ≡ true → all alnum (xs ++ b ∷ []) ≡ true
 all_front [] b ys h = and_from (alnum b) true (and_parts (alnum b) (all alnum ys) h).0 refl
@@ -309,8 +309,8 @@ kind_name w h =
     ∙ cond-true (is_name w) NameWord NoWord h
 
 -- the end of a word
-at-end : (c : Sep) (w k : List ℕ) (b d : ℕ) (s : List Sym) (bs : List ℕ) → w ≡ k → b ≡ d → After (behind (kind_of k) c d s) bs → After (behind (kind_of w) c b s) bs
-at-end c w k b d s bs p q a = subst₂ (λ (x : List ℕ) (y : ℕ). After (behind (kind_of x) c y s) bs) (sym p) (sym q) a
+at_end : (c : Sep) (w k : List ℕ) (b d : ℕ) (s : List Sym) (bs : List ℕ) → w ≡ k → b ≡ d → After (behind (kind_of k) c d s) bs → After (behind (kind_of w) c b s) bs
+at_end c w k b d s bs p q a = subst₂ (λ (x : List ℕ) (y : ℕ). After (behind (kind_of x) c y s) bs) (sym p) (sym q) a
 
 pub is_word-two_word : (o : Two) → is_word (two_word o) ≡ true
 is_word-two_word both = refl
@@ -335,19 +335,19 @@ at_one c turn s bs g = g
 end_expr : (c : Sep) (w : List ℕ) (b : ℕ) (s : List Sym) (bs : List ℕ) → Good w → is_word (w ++ b ∷ []) ≡ false → (e : Expr) (r : List ℕ) → w ++ b ∷ bs ≡ on_e e (byte c ∷ r) → Gen s r → After (behind (kind_of w) c b s) bs
 end_expr c w b s bs good h (half a1 a2 a3 a4) r e g =
     let k = whole w (codes "half") b 32 bs _ good refl refl h e in
-    at-end c w (codes "half") b 32 s bs k.0 k.1 (a1, _, k.2, (a2, _, refl, (a3, _, refl, (a4, r, refl, g))))
+    at_end c w (codes "half") b 32 s bs k.0 k.1 (a1, _, k.2, (a2, _, refl, (a3, _, refl, (a4, r, refl, g))))
 end_expr c w b s bs good h (box a1 a2 a3 a4 a5 a6) r e g =
     let k = whole w (codes "box") b 32 bs _ good refl refl h e in
-    at-end c w (codes "box") b 32 s bs k.0 k.1 (a1, _, k.2, (a2, _, refl, (a3, _, refl, (a4, _, refl, (a5, _, refl, (a6, r, refl, g))))))
+    at_end c w (codes "box") b 32 s bs k.0 k.1 (a1, _, k.2, (a2, _, refl, (a3, _, refl, (a4, _, refl, (a5, _, refl, (a6, r, refl, g))))))
 end_expr c w b s bs good h (two o e1 e2) r e g =
     let k = whole w (two_word o) b 40 bs _ good (is_word-two_word o) refl h e in
-    at-end c w (two_word o) b 40 s bs k.0 k.1 (at_two c o s bs (e1, _, k.2, (_, refl, (e2, _, refl, (r, refl, g)))))
+    at_end c w (two_word o) b 40 s bs k.0 k.1 (at_two c o s bs (e1, _, k.2, (_, refl, (e2, _, refl, (r, refl, g)))))
 end_expr c w b s bs good h (move a1 a2 a3 e1) r e g =
     let k = whole w (codes "move") b 32 bs _ good refl refl h e in
-    at-end c w (codes "move") b 32 s bs k.0 k.1 (a1, _, k.2, (a2, _, refl, (a3, _, refl, (_, refl, (e1, _, refl, (r, refl, g))))))
+    at_end c w (codes "move") b 32 s bs k.0 k.1 (a1, _, k.2, (a2, _, refl, (a3, _, refl, (_, refl, (e1, _, refl, (r, refl, g))))))
 end_expr c w b s bs good h (one o e1) r e g =
     let k = whole w (one_word o) b 40 bs _ good (is_word-one_word o) refl h e in
-    at-end c w (one_word o) b 40 s bs k.0 k.1 (at_one c o s bs (e1, _, k.2, (r, refl, g)))
+    at_end c w (one_word o) b 40 s bs k.0 k.1 (at_one c o s bs (e1, _, k.2, (r, refl, g)))
 end_expr c w b s bs good h (called n) r e g =
     let k = whole w n.0 b (byte c) bs r good (and_parts (is_word n.0) _ n.1).0 (sep_alnum c) h e in
     let q : kind_of w ≡ NameWord = ap kind_of k.0 ∙ kind_name n.0 n.1 in

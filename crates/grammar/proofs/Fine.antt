@@ -1,5 +1,6 @@
 -- The words of lines have no fault exactly if the lines are fine.
 use Rattle.std.proofs.Common.{◌≡◌, ℕ, suc, ◌+◌, ◌<◌, ◌≤◌, Bool, true, false, cond, not, ◌&&◌, ◌||◌, T, eqb, ltb, leb, List, [], ◌∷◌, ◌++◌, map, length, drop, ℤ, pos, negsuc, nat_abs, codes, filter, sym, refl, ap, ◌∙◌, subst, ap₂, arith, ltb→lt, length-drop, ltb-false, ltb-true, eqb-true, le-leb}
+use Rattle.std.proofs.Math.Bool.{not-not}
 use borrow.Author.Tests.{lt-leb, eqb-false}
 use Rattle.std.specs.List.{AllByRecursion}
 use Rattle.std.proofs.ByRecursion.{All-map, All-weaker}
@@ -9,7 +10,7 @@ use Rattle.grammar.specs.Tokens.{in_tok, tok_at, starts_from, code_e, code_of}
 use Rattle.grammar.specs.Values.{read_on, number_limit, scale_most}
 use Rattle.grammar.specs.Faults.{Fault, Token, token, tokens, Role, new_name, used_name, shape, measure, scale, of_part, of_place, of_box, scan, if_so, looked, word_faults, amount, negative, beyond, no_scale, most_parts, later}
 use Rattle.grammar.specs.Meaning.{short, scales, fine, fine_shape}
-use Rattle.grammar.proofs.First.{all-inside}
+use Rattle.grammar.proofs.First.{all_inside}
 use Rattle.grammar.proofs.Tokens.{text_code, placed}
 use Rattle.grammar.proofs.Exact.{same_eq}
 use Rattle.grammar.proofs.Numbers.{no_minus}
@@ -143,11 +144,7 @@ new_one : (names : List (List ℕ)) (n : Name) → not (is_name n.0 && one_of na
 new_one names n = ap (λ (x : Bool). not (x && one_of names n.0)) n.1
 
 known_one : (names : List (List ℕ)) (n : Name) → not (is_name n.0 && not (one_of names n.0)) ≡ one_of names n.0
-known_one names n = ap (λ (x : Bool). not (x && not (one_of names n.0))) n.1 ∙ twice (one_of names n.0)
-  where
-    twice : (b : Bool) → not (not b) ≡ b
-    twice true = refl
-    twice false = refl
+known_one names n = ap (λ (x : Bool). not (x && not (one_of names n.0))) n.1 ∙ not-not (one_of names n.0)
 
 no_box : (n : Name) → same n.0 (codes "box") ≡ false
 no_box n = go (same n.0 (codes "box")) refl
@@ -205,21 +202,21 @@ kept_all : {X : Type 0} (f : X → Bool) (xs : List X) → AllByRecursion (λ x.
 kept_all f [] a = refl
 kept_all f (x ∷ xs) a = cond-true (f x) _ _ a.0 ∙ ap (λ (l : List _). x ∷ l) (kept_all f xs a.1)
 
-pub looked-all : (bs : List ℕ) → looked (length bs) bs ≡ tokens bs
-looked-all bs =
+pub looked_all : (bs : List ℕ) → looked (length bs) bs ≡ tokens bs
+looked_all bs =
     kept_all (λ t. leb (t.start + length t.word) (length bs)) (tokens bs)
     (All-map (λ t. leb (t.start + length t.word) (length bs) ≡ true) (λ p. token p (tok_at (drop p bs))) (starts_from false 0 bs)
-    (All-weaker (λ p. p < length bs) (λ p. leb (p + length (tok_at (drop p bs))) (length bs) ≡ true) ends (starts_from false 0 bs) (all-inside bs)))
+    (All-weaker (λ p. p < length bs) (λ p. leb (p + length (tok_at (drop p bs))) (length bs) ≡ true) ends (starts_from false 0 bs) (all_inside bs)))
   where
     ends : (p : ℕ) → p < length bs → leb (p + length (tok_at (drop p bs))) (length bs) ≡ true
     ends p h = le-leb _ _ (let k = tok_short (drop p bs) in omega (arith, length-drop p bs))
 
-words_of-tokens : (bs ps : List ℕ) → words_of (map (λ p. token p (tok_at (drop p bs))) ps) ≡ map (λ p. tok_at (drop p bs)) ps
-words_of-tokens bs [] = refl
-words_of-tokens bs (p ∷ ps) = ap (λ (l : List (List ℕ)). tok_at (drop p bs) ∷ l) (words_of-tokens bs ps)
+words_of_tokens : (bs ps : List ℕ) → words_of (map (λ p. token p (tok_at (drop p bs))) ps) ≡ map (λ p. tok_at (drop p bs)) ps
+words_of_tokens bs [] = refl
+words_of_tokens bs (p ∷ ps) = ap (λ (l : List (List ℕ)). tok_at (drop p bs) ∷ l) (words_of_tokens bs ps)
 
 pub text_words : (bs : List ℕ) (ls : List Line) → bs ≡ print ls → map (λ t. t.word) (looked (length bs) bs) ≡ code_of ls
-text_words bs ls e = ap words_of (looked-all bs) ∙ words_of-tokens bs (starts_from false 0 bs) ∙ text_code bs ls e (starts_from false 0 bs) (placed bs (starts_from false 0 bs) refl)
+text_words bs ls e = ap words_of (looked_all bs) ∙ words_of_tokens bs (starts_from false 0 bs) ∙ text_code bs ls e (starts_from false 0 bs) (placed bs (starts_from false 0 bs) refl)
 
 -- THE TEXTS THAT HAVE NO FAULT IN THEIR WORDS are those whose lines are fine
 pub faults_fine : (bs : List ℕ) (ls : List Line) → bs ≡ print ls → none (word_faults (length bs) bs) ≡ fine [] ls

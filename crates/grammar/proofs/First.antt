@@ -8,7 +8,7 @@ use Rattle.grammar.specs.Grammar.{same, one_of, is_name, Text, Refused}
 use Rattle.grammar.specs.Tokens.{in_tok, tok_at, starts_from, once_if}
 use Rattle.grammar.specs.Faults.{Fault, fault, Token, token, tokens, Role, new_name, used_name, shape, measure, scale, of_part, of_place, of_box, scan, if_so, looked, word_faults, beyond, no_scale, most_parts, later, most_bytes, Reaches, seen, Faulty, stuck, long, wrong, Before, FirstFault}
 use Rattle.grammar.proofs.Spacing.{Ascends, ascends_all, word_faults_ascend}
-use Rattle.grammar.proofs.Laws.{one_place, not-both, shorter}
+use Rattle.grammar.proofs.Laws.{one_place, not_both, shorter}
 
 -- a word begins within the bytes
 starts_below : (t : Bool) (i : ℕ) (ys : List ℕ) → AllByRecursion (λ p. p < i + length ys) (starts_from t i ys)
@@ -21,11 +21,11 @@ starts_below t i (b ∷ ys) =
     one true = (omega arith, tt)
     one false = tt
 
-pub all-inside : (bs : List ℕ) → AllByRecursion (λ p. p < length bs) (starts_from false 0 bs)
-all-inside bs = All-weaker (λ p. p < 0 + length bs) (λ p. p < length bs) (λ p h. omega arith) (starts_from false 0 bs) (starts_below false 0 bs)
+pub all_inside : (bs : List ℕ) → AllByRecursion (λ p. p < length bs) (starts_from false 0 bs)
+all_inside bs = All-weaker (λ p. p < 0 + length bs) (λ p. p < length bs) (λ p h. omega arith) (starts_from false 0 bs) (starts_below false 0 bs)
 
 pub starts_inside : (bs ps : List ℕ) (k : ℕ) → ps ≡ starts_from false 0 bs → k < length ps → get_or ps k 0 < length bs
-starts_inside bs ps k e h = All-get_or (λ p. p < length bs) ps k 0 h (subst (λ (l : List ℕ). AllByRecursion (λ p. p < length bs) l) (sym e) (all-inside bs))
+starts_inside bs ps k e h = All-get_or (λ p. p < length bs) ps k 0 h (subst (λ (l : List ℕ). AllByRecursion (λ p. p < length bs) l) (sym e) (all_inside bs))
 
 -- a fault is told where a word begins
 module _ (P : ℕ → Type 0) where
@@ -71,7 +71,7 @@ pub faults_inside : (read : ℕ) (bs : List ℕ) → AllByRecursion (λ f. f.pla
 faults_inside read bs =
     scan_places (λ p. p < length bs) [] [] (looked read bs)
     (all_kept (λ t. t.start < length bs) (λ t. leb (t.start + length t.word) read) (tokens bs)
-    (All-map (λ t. t.start < length bs) (λ p. token p (tok_at (drop p bs))) (starts_from false 0 bs) (all-inside bs)))
+    (All-map (λ t. t.start < length bs) (λ p. token p (tok_at (drop p bs))) (starts_from false 0 bs) (all_inside bs)))
 
 -- bytes begin a text so far and no farther
 pub one_reach : (bs : List ℕ) (p q : ℕ) → Reaches bs p → Reaches bs q → p ≡ q
@@ -107,8 +107,8 @@ module _ (bs : List ℕ) (p : ℕ) (reach : Reaches (take most_bytes bs) p) wher
   inside_limit : p ≤ most_bytes
   inside_limit = let h = reach.inside in omega (arith, length-take most_bytes bs)
 
-  below-reach : AllByRecursion (λ f. f.place < p) here
-  below-reach = All-weaker (λ f. f.place < length (take p bs)) (λ f. f.place < p) (λ f h. omega (arith, length-take p bs)) here (faults_inside (seen bs p) (take p bs))
+  below_reach : AllByRecursion (λ f. f.place < p) here
+  below_reach = All-weaker (λ f. f.place < length (take p bs)) (λ f. f.place < p) (λ f h. omega (arith, length-take p bs)) here (faults_inside (seen bs p) (take p bs))
 
   pub first_word : (f : Fault) (rest : List Fault) → here ≡ f ∷ rest → FirstFault bs f
   first_word f rest e = record {
@@ -117,7 +117,7 @@ module _ (bs : List ℕ) (p : ℕ) (reach : Reaches (take most_bytes bs) p) wher
   }
     where
       low : f.place < p
-      low = (subst (λ (l : List Fault). AllByRecursion (λ g. g.place < p) l) e below-reach).0
+      low = (subst (λ (l : List Fault). AllByRecursion (λ g. g.place < p) l) e below_reach).0
 
       up : AllByRecursion (λ g. suc f.place ≤ g.place) rest
       up = ascends_all (suc f.place) rest (subst (Ascends 0) e (word_faults_ascend (seen bs p) (take p bs))).1
@@ -171,7 +171,7 @@ module _ (bs : List ℕ) (p : ℕ) (reach : Reaches (take most_bytes bs) p) wher
 
 -- without any, the bytes are a text that is read to its end
 pub no_fault : (bs : List ℕ) → Text bs → length bs ≤ most_bytes → word_faults (length bs) bs ≡ [] → (g : Fault) → Faulty bs g → ⊥
-no_fault bs t h e g (stuck p i r u) = not-both bs p t (subst (λ (l : List ℕ). Refused l p) (take_all most_bytes bs h) r)
+no_fault bs t h e g (stuck p i r u) = not_both bs p t (subst (λ (l : List ℕ). Refused l p) (take_all most_bytes bs h) r)
 no_fault bs t h e g (long i k) = omega arith
 no_fault bs t h e g (wrong p r k) =
     let b : take most_bytes bs ≡ bs = take_all most_bytes bs h in

@@ -27,8 +27,8 @@ one_place bs p q a b = go (cases_order p q)
     go (inr (inl h)) = absurd (far p q a b h)
     go (inr (inr h)) = absurd (far q p b a h)
 
-pub not-both : NotBoth
-not-both bs p t a = go (cases_lt p (length bs))
+pub not_both : NotBoth
+not_both bs p t a = go (cases_lt p (length bs))
   where
     go : (p < length bs) ⊎ (length bs ≤ p) → ⊥
     go (inl h) = a.no_more h (shorter bs (p + 1) (length bs) (omega arith) ([], subst Text (sym (append-nil _ ∙ take_all (length bs) bs (omega arith))) t))

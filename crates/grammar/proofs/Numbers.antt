@@ -43,12 +43,12 @@ downs w = map (λ c. c - 48) w
 digit_in : (b : ℕ) → digit b ≡ true → (48 ≤ b) × (b ≤ 57)
 digit_in b h = let p = and_parts (leb 48 b) (leb b 57) h in (leb-true 48 b p.0, leb-true b 57 p.1)
 
-under-downs : (w : List ℕ) → all digit w ≡ true → AllBelowBase 10 (downs w)
-under-downs [] h = tt
-under-downs (b ∷ w) h =
+under_downs : (w : List ℕ) → all digit w ≡ true → AllBelowBase 10 (downs w)
+under_downs [] h = tt
+under_downs (b ∷ w) h =
     let p = and_parts (digit b) (all digit w) h in
     let q = digit_in b p.0 in
-    (omega arith, under-downs w p.1)
+    (omega arith, under_downs w p.1)
 
 up_down : (w : List ℕ) → all digit w ≡ true → map (λ d. 48 + d) (downs w) ≡ w
 up_down [] h = refl
@@ -75,7 +75,7 @@ pos_decimal (b ∷ w) h =
     let p = and_parts (digit1 b) (all digit w) h in
     let q = digit1_in b p.0 in
     let first : number_from_digits 10 ((b - 48) ∷ []) ≡ b - 48 = omega arith in
-    let k = more_digits ((b - 48) ∷ []) (downs w) (omega arith) (one_digit (b - 48) (omega arith) (omega arith)) (under-downs w p.1) in
+    let k = more_digits ((b - 48) ∷ []) (downs w) (omega arith) (one_digit (b - 48) (omega arith) (omega arith)) (under_downs w p.1) in
     let n = number_from_digits 10 (downs (b ∷ w)) in
     let big : 0 < n = omega (arith, number_after_ge 10 (0 * 10 + (b - 48)) (downs w) (omega arith)) in
     let e : 48 + (b - 48) ≡ b = omega arith in
@@ -129,14 +129,14 @@ signed_num (pos n) = decimal_num n
 signed_num (negsuc n) = decimal_pos (suc n) (omega arith)
 
 -- a number is written in one way only
-pub decimal-value : (n : ℕ) → number_from_digits 10 (downs (decimal n)) ≡ n
-decimal-value zero = refl
-decimal-value (suc n) =
+pub decimal_value : (n : ℕ) → number_from_digits 10 (downs (decimal n)) ≡ n
+decimal_value zero = refl
+decimal_value (suc n) =
     let e : decimal (suc n) ≡ map (λ d. 48 + d) (digits_of 10 (suc n)) = cond-false (eqb (suc n) 0) _ _ (ne_eqb (suc n) 0 (omega arith)) in
     ap (λ (x : List ℕ). number_from_digits 10 (downs x)) e ∙ ap (number_from_digits 10) (down_up (digits_of 10 (suc n))) ∙ number_digits_of 10 (suc n) (omega arith)
 
 decimal_once : (m n : ℕ) → decimal m ≡ decimal n → m ≡ n
-decimal_once m n e = sym (decimal-value m) ∙ ap (λ (x : List ℕ). number_from_digits 10 (downs x)) e ∙ decimal-value n
+decimal_once m n e = sym (decimal_value m) ∙ ap (λ (x : List ℕ). number_from_digits 10 (downs x)) e ∙ decimal_value n
 
 pub no_minus : (n : ℕ) (w : List ℕ) → decimal n ≡ 45 ∷ w → ⊥
 no_minus zero w e = let z : ◌≡◌ {A = ℕ} 48 45 = cc in omega arith

@@ -10,7 +10,7 @@ use Rattle.grammar.specs.declared.types.Kind.{Kind}
 use Rattle.grammar.specs.declared.types.Kind.TheVariants.{HalfWord, BoxWord, TwoWord, MoveWord, OneWord, NameWord, NoWord}
 use Rattle.grammar.specs.Machine.{kind_of}
 use Rattle.grammar.specs.Tokens.{in_tok}
-use Rattle.grammar.proofs.Exact.{alnum-word, kind_name, is_word-two_word, is_word-one_word}
+use Rattle.grammar.proofs.Exact.{alnum_word, kind_name, is_word-two_word, is_word-one_word}
 
 same_name : (a b : Name) → a.0 ≡ b.0 → a ≡ b
 same_name a b e = Σ_prop_path (λ w. So-prop (is_name w)) e
@@ -38,13 +38,13 @@ tok_alnum (b ∷ w) h =
     and_from (in_tok b) (all in_tok w) (or_left (alnum b) (eqb b 45) p.0) (tok_alnum w p.1)
 
 pub tok_two : (o : Two) → all in_tok (two_word o) ≡ true
-tok_two o = tok_alnum (two_word o) (alnum-word (two_word o) (is_word-two_word o))
+tok_two o = tok_alnum (two_word o) (alnum_word (two_word o) (is_word-two_word o))
 
 pub tok_one : (o : One) → all in_tok (one_word o) ≡ true
-tok_one o = tok_alnum (one_word o) (alnum-word (one_word o) (is_word-one_word o))
+tok_one o = tok_alnum (one_word o) (alnum_word (one_word o) (is_word-one_word o))
 
 pub tok_name : (n : Name) → all in_tok n.0 ≡ true
-tok_name n = tok_alnum n.0 (alnum-word n.0 (and_parts (is_word n.0) _ n.1).0)
+tok_name n = tok_alnum n.0 (alnum_word n.0 (and_parts (is_word n.0) _ n.1).0)
 
 tok_digits : (w : List ℕ) → all digit w ≡ true → all in_tok w ≡ true
 tok_digits [] h = refl
@@ -122,7 +122,7 @@ tag_is (one mirror e1) d r h = refl
 tag_is (one swap e1) d r h = refl
 tag_is (one turn e1) d r h = refl
 tag_is (called n) d r h =
-    ap kind_of (front_at n.0 d r (alnum-word n.0 (and_parts (is_word n.0) _ n.1).0) (or_parts (alnum d) (eqb d 45) h).0) ∙ kind_name n.0 n.1
+    ap kind_of (front_at n.0 d r (alnum_word n.0 (and_parts (is_word n.0) _ n.1).0) (or_parts (alnum d) (eqb d 45) h).0) ∙ kind_name n.0 n.1
 
 abbrev View : Kind → Expr → Type 0
 View HalfWord e = (a b c d : ℤ) × (e ≡ half a b c d)

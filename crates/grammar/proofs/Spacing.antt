@@ -5,7 +5,7 @@ use Rattle.std.proofs.lemmas.Bool.{cond-true, cond-false}
 use Rattle.grammar.specs.Grammar.{same, one_of, is_name}
 use Rattle.grammar.specs.Tokens.{in_tok, tok_at, starts_from, once_if}
 use Rattle.grammar.specs.Faults.{Fault, Token, token, tokens, Role, new_name, used_name, shape, measure, scale, of_part, of_place, of_box, scan, if_so, looked, word_faults, beyond, no_scale, most_parts, later}
-use Rattle.grammar.proofs.Tokens.{drop-next}
+use Rattle.grammar.proofs.Tokens.{drop_next}
 
 -- each begins at n or behind, and the next behind its end
 abbrev pub Spaced : ℕ → List Token → Type 0
@@ -27,7 +27,7 @@ Spread true i ys ts = Spaced (i + length (tok_at ys) + 1) ts
 spread : (xs ys : List ℕ) (t : Bool) (i : ℕ) → drop i xs ≡ ys → Spread t i ys (map (at xs) (starts_from t i ys))
 spread xs [] true i e = tt
 spread xs [] false i e = tt
-spread xs (b ∷ ys) t i e = go t (in_tok b) refl (spread xs ys (in_tok b) (suc i) (drop-next xs i b ys e))
+spread xs (b ∷ ys) t i e = go t (in_tok b) refl (spread xs ys (in_tok b) (suc i) (drop_next xs i b ys e))
   where
     more : (u : Bool) → in_tok b ≡ u → length (tok_at (b ∷ ys)) ≡ cond u (suc (length (tok_at ys))) 0
     more true f = ap length (cond-true (in_tok b) _ _ f)

@@ -107,16 +107,16 @@ map_mark : (t : Bool) (i : ℕ) (xs : List ℕ) (ps : List ℕ) → map (λ p. t
 map_mark true i xs ps = refl
 map_mark false i xs ps = refl
 
-pub drop-next : (xs : List ℕ) (i b : ℕ) (ys : List ℕ) → drop i xs ≡ b ∷ ys → drop (suc i) xs ≡ ys
-drop-next [] zero b ys e = let z : ◌≡◌ {A = ℕ} 0 1 = cc in absurd (omega arith)
-drop-next [] (suc i) b ys e = let z : ◌≡◌ {A = ℕ} 0 1 = cc in absurd (omega arith)
-drop-next (x ∷ xs) zero b ys e = cc
-drop-next (x ∷ xs) (suc i) b ys e = drop-next xs i b ys e
+pub drop_next : (xs : List ℕ) (i b : ℕ) (ys : List ℕ) → drop i xs ≡ b ∷ ys → drop (suc i) xs ≡ ys
+drop_next [] zero b ys e = let z : ◌≡◌ {A = ℕ} 0 1 = cc in absurd (omega arith)
+drop_next [] (suc i) b ys e = let z : ◌≡◌ {A = ℕ} 0 1 = cc in absurd (omega arith)
+drop_next (x ∷ xs) zero b ys e = cc
+drop_next (x ∷ xs) (suc i) b ys e = drop_next xs i b ys e
 
 placed_from : (xs ys : List ℕ) (t : Bool) (i : ℕ) → drop i xs ≡ ys → map (λ p. tok_at (drop p xs)) (starts_from t i ys) ≡ toks_from t ys
 placed_from xs [] t i e = refl
 placed_from xs (b ∷ ys) t i e =
-    let next : drop (suc i) xs ≡ ys = drop-next xs i b ys e in
+    let next : drop (suc i) xs ≡ ys = drop_next xs i b ys e in
     let k = placed_from xs ys (in_tok b) (suc i) next in
     map_mark (not t && in_tok b) i xs (starts_from (in_tok b) (suc i) ys)
     ∙ ap (λ (x : List ℕ). once_if (not t && in_tok b) (tok_at x) ++ map (λ p. tok_at (drop p xs)) (starts_from (in_tok b) (suc i) ys)) e

@@ -6,7 +6,7 @@ use Rattle.std.proofs.lemmas.Bool.{and_parts, cond-true, cond-false, or_parts, l
 use Rattle.grammar.specs.Grammar.{digit, letter, alnum, all, decimal, signed}
 use Rattle.grammar.specs.Tokens.{in_tok, tok_at}
 use Rattle.grammar.specs.Values.{read_on}
-use Rattle.grammar.proofs.Numbers.{decimal-value, decimal_digits, downs, no_minus}
+use Rattle.grammar.proofs.Numbers.{decimal_value, decimal_digits, downs, no_minus}
 
 pub read_ge : (v : ℕ) (xs : List ℕ) → v ≤ read_on v xs
 read_ge v [] = omega arith
@@ -42,10 +42,10 @@ read_run (b ∷ ds) r v h e =
 pub read_decimal : (xs : List ℕ) (n : ℕ) → tok_at xs ≡ decimal n → read_on 0 xs ≡ n
 read_decimal xs n e =
     let k = tok_split xs in
-    ap (read_on 0) (k.1 ∙ ap (λ (x : List ℕ). x ++ k.0) e) ∙ read_run (decimal n) k.0 0 (decimal_digits n) k.2 ∙ decimal-value n
+    ap (read_on 0) (k.1 ∙ ap (λ (x : List ℕ). x ++ k.0) e) ∙ read_run (decimal n) k.0 0 (decimal_digits n) k.2 ∙ decimal_value n
 
 pub read_digits : (n : ℕ) → read_on 0 (decimal n) ≡ n
-read_digits n = ap (read_on 0) (sym (append-nil (decimal n))) ∙ read_run (decimal n) [] 0 (decimal_digits n) tt ∙ decimal-value n
+read_digits n = ap (read_on 0) (sym (append-nil (decimal n))) ∙ read_run (decimal n) [] 0 (decimal_digits n) tt ∙ decimal_value n
 
 -- one digit more
 pub read_more : (xs : List ℕ) (i v : ℕ) → i < length xs → digit (get_or xs i 0) ≡ true → read_on (v * 10 + (get_or xs i 0 - 48)) (drop (i + 1) xs) ≡ read_on v (drop i xs)

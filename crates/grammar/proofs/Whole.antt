@@ -57,10 +57,10 @@ out_run [] o v h a = a
 out_run (b ∷ u) none v h a = absurd a
 out_run (b ∷ u) (some s) v h a = out_run u (step s b) v (keep s b h) (out s b (u ++ v) h a)
 
-pub back-run : (u : List ℕ) (o : Option (List Sym)) (v : List ℕ) → After (run o u) v → After o (u ++ v)
-back-run [] o v a = a
-back-run (b ∷ u) none v a = absurd a
-back-run (b ∷ u) (some s) v a = back s b (u ++ v) (back-run u (step s b) v a)
+pub back_run : (u : List ℕ) (o : Option (List Sym)) (v : List ℕ) → After (run o u) v → After o (u ++ v)
+back_run [] o v a = a
+back_run (b ∷ u) none v a = absurd a
+back_run (b ∷ u) (some s) v a = back s b (u ++ v) (back_run u (step s b) v a)
 
 -- how a word ends as a name: as it is, or one byte on
 abbrev ext : List ℕ → List ℕ
@@ -70,9 +70,9 @@ abbrev names0 : List (List ℕ) → Bool
 names0 [] = true
 names0 (k ∷ ks) = is_name (k ++ 48 ∷ []) && names0 ks
 
-ext-reserved : (ks : List (List ℕ)) (w : List ℕ) → one_of ks w ≡ true → names0 ks ≡ true → is_name (w ++ 48 ∷ []) ≡ true
-ext-reserved [] w h n = absurd (both_ways false refl h)
-ext-reserved (k ∷ ks) w h n = go (or_cases (same w k) (one_of ks w) h) (λ e. ext-reserved ks w e p.1)
+ext_reserved : (ks : List (List ℕ)) (w : List ℕ) → one_of ks w ≡ true → names0 ks ≡ true → is_name (w ++ 48 ∷ []) ≡ true
+ext_reserved [] w h n = absurd (both_ways false refl h)
+ext_reserved (k ∷ ks) w h n = go (or_cases (same w k) (one_of ks w) h) (λ e. ext_reserved ks w e p.1)
   where
     p : (is_name (k ++ 48 ∷ []) ≡ true) × (names0 ks ≡ true)
     p = and_parts (is_name (k ++ 48 ∷ [])) (names0 ks) n
@@ -94,7 +94,7 @@ ext_name [] h = refl
 ext_name (b ∷ w) h =
     cond_both (is_name (b ∷ w)) [] (48 ∷ []) (λ x. is_name ((b ∷ w) ++ x) ≡ true)
     (λ e. subst (λ (x : List ℕ). is_name x ≡ true) (sym (append-nil (b ∷ w))) e)
-    (λ e. ext-reserved reserved (b ∷ w) (taken (b ∷ w) h e) refl)
+    (λ e. ext_reserved reserved (b ∷ w) (taken (b ∷ w) h e) refl)
 
 abbrev pub finish : List Sym → List ℕ
 finish [] = []
@@ -168,14 +168,14 @@ start = some []
 pub viable_from_run : (u : List ℕ) (s : List Sym) → run start u ≡ some s → Viable u
 viable_from_run u s e =
     let h : Sound s = subst SoundO e (keep_run u start tt) in
-    (finish s, back-run u start (finish s) (subst (λ o. After o (finish s)) (sym e) (finishes s h)))
+    (finish s, back_run u start (finish s) (subst (λ o. After o (finish s)) (sym e) (finishes s h)))
 
 pub not_viable : (u : List ℕ) → run start u ≡ none → Viable u → ⊥
 not_viable u e v = subst (λ o. After o v.0) e (out_run u start v.0 tt v.1)
 
 pub text_from_run : (u : List ℕ) → run start u ≡ some [] → Text u
 text_from_run u e =
-    subst Text (append-nil u) (back-run u start [] (subst (λ o. After o []) (sym e) ([], refl)))
+    subst Text (append-nil u) (back_run u start [] (subst (λ o. After o []) (sym e) ([], refl)))
 
 pub run_from_text : (u : List ℕ) (s : List Sym) → run start u ≡ some s → Text u → s ≡ []
 run_from_text u s e t =

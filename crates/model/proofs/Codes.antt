@@ -9,35 +9,35 @@ use Rattle.plane.specs.declared.types.Place.{Place}
 use Rattle.plane.specs.declared.types.Plane.{Plane}
 use Rattle.model.specs.Wire.{WirePlace, wire_place, InRangePlace}
 use Rattle.model.specs.Format.{listed, signed_bytes, plane_bytes, place_bytes, count_bytes}
-use Rattle.model.proofs.Digits.{by-weight, from_weight, length-low_first}
+use Rattle.model.proofs.Digits.{by_weight, from_weight, length-low_first}
 
-pub length-signed : (w : Width) (z : ℤ) → length (signed_bytes w z) ≡ bytes w
+pub length-signed_bytes : (w : Width) (z : ℤ) → length (signed_bytes w z) ≡ bytes w
 unfolding signed_bytes
-length-signed w z = length-low_first (bytes w) (of_z w z)
+length-signed_bytes w z = length-low_first (bytes w) (of_z w z)
 
 pub length_count : (w : Width) (n : ℕ) → length (count_bytes w n) ≡ bytes w
 unfolding count_bytes
 length_count w n = length-low_first (bytes w) n
 
-pub length-plane : (p : Plane) → length (plane_bytes p) ≡ 7
+pub length-plane_bytes : (p : Plane) → length (plane_bytes p) ≡ 7
 unfolding plane_bytes signed_bytes
-length-plane p = refl
+length-plane_bytes p = refl
 
-pub length-place : (q : WirePlace) → length (place_bytes q) ≡ 32
+pub length-place_bytes : (q : WirePlace) → length (place_bytes q) ≡ 32
 unfolding place_bytes signed_bytes
-length-place q = refl
+length-place_bytes q = refl
 
-pub length-joined : {X : Type 0} (f : X → List ℕ) (k : ℕ) → ((x : X) → length (f x) ≡ k) → (xs : List X) → length (flat_map f xs) ≡ k * length xs
-length-joined f k h [] = omega arith
-length-joined f k h (x ∷ xs) =
-    length-append (f x) (flat_map f xs) ∙ ap (λ (n : ℕ). n + length (flat_map f xs)) (h x) ∙ ap (λ (n : ℕ). k + n) (length-joined f k h xs) ∙ one_more (length xs)
+pub length-flat_map : {X : Type 0} (f : X → List ℕ) (k : ℕ) → ((x : X) → length (f x) ≡ k) → (xs : List X) → length (flat_map f xs) ≡ k * length xs
+length-flat_map f k h [] = omega arith
+length-flat_map f k h (x ∷ xs) =
+    length-append (f x) (flat_map f xs) ∙ ap (λ (n : ℕ). n + length (flat_map f xs)) (h x) ∙ ap (λ (n : ℕ). k + n) (length-flat_map f k h xs) ∙ one_more (length xs)
   where
     one_more : (n : ℕ) → k + k * n ≡ k * suc n
     one_more n = omega (arith, mul-suc k n)
 
 pub length-listed : {X : Type 0} (w : Width) (f : X → List ℕ) (k : ℕ) → ((x : X) → length (f x) ≡ k) → (xs : List X) → length (listed w f xs) ≡ bytes w + k * length xs
 unfolding listed
-length-listed w f k h xs = length-append (count_bytes w (length xs)) (flat_map f xs) ∙ ap₂ (λ (m n : ℕ). m + n) (length_count w (length xs)) (length-joined f k h xs)
+length-listed w f k h xs = length-append (count_bytes w (length xs)) (flat_map f xs) ∙ ap₂ (λ (m n : ℕ). m + n) (length_count w (length xs)) (length-flat_map f k h xs)
 
 -- places that can be written
 pub w_small : (qs : List Place) → AllByRecursion InRangePlace (map wire_place qs) → AllByRecursion (λ (q : Place). q.w < 2 ^ 63) qs
@@ -64,7 +64,7 @@ one_byte z s e =
 
 pub four_bytes : {k : List ℕ} (z : ℤ) → SFits w32 z → (let n = of_z w32 (to_z w32 (of_z w32 (to_z w64 (of_z w64 z)))) in k ≡ (n % 256) ∷ from_weight 3 256 n) → k ≡ signed_bytes w32 z
 unfolding signed_bytes
-four_bytes z s e = e ∙ sym (by-weight 3 _) ∙ ap (signed_bytes w32) (narrowed w32 s tt)
+four_bytes z s e = e ∙ sym (by_weight 3 _) ∙ ap (signed_bytes w32) (narrowed w32 s tt)
 
 -- a plane's bytes, put together
 pub plane_made : (p : Plane) {k l m n : List ℕ} → k ≡ signed_bytes w8 p.a → l ≡ signed_bytes w8 p.b → m ≡ signed_bytes w8 p.c → n ≡ signed_bytes w32 p.d →

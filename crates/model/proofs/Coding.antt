@@ -7,7 +7,7 @@ use Rattle.std.proofs.lemmas.List.{take_at, drop_at}
 use Rattle.std.specs.List.{flat_map, AllByRecursion}
 use Rattle.model.specs.Format.{low_first, count_bytes, signed_bytes, listed}
 use Rattle.model.specs.Finds.{Few}
-use Rattle.model.proofs.Digits.{Bytes, value, length-low_first, value-low_first, low_first-value, value-below, bytes_take, bytes_tail}
+use Rattle.model.proofs.Digits.{Bytes, value, length-low_first, value-low_first, low_first-value, value_below, bytes_take, bytes_tail}
 
 -- l begins with a thing in range, of at most n bytes
 pub record Begins {X : Type 0} (f : X → List ℕ) (R : X → Type 0) (n : ℕ) (l : List ℕ) : Type 0 where
@@ -39,7 +39,7 @@ front_number : (k : ℕ) (l : List ℕ) → Bytes l → k ≤ length l → (valu
 front_number k l b h =
     let n : length (take k l) ≡ k = length-take-le k l h in
     let t : Bytes (take k l) = bytes_take k l b in (
-      subst (λ (i : ℕ). value (take k l) < 256 ^ i) n (value-below (take k l) t),
+      subst (λ (i : ℕ). value (take k l) < 256 ^ i) n (value_below (take k l) t),
       sym (take-append-drop k l)
           ∙ ap (λ (x : List ℕ). x ++ drop k l) (sym (low_first-value (take k l) t) ∙ ap (λ (i : ℕ). low_first i (value (take k l))) n),
     )

@@ -8,7 +8,7 @@ use Rattle.std.specs.List.{between}
 use Rattle.model.specs.Wire.{InRangePlane, InRangePlace}
 use Rattle.model.specs.Format.{low_first, count_bytes, signed_bytes, plane_bytes, place_bytes}
 use Rattle.model.specs.Finds.{Decoded}
-use Rattle.model.proofs.Digits.{Bytes, bytes_drop, bytes_take, value, value-below, low_first-value, weighed, weighed-all}
+use Rattle.model.proofs.Digits.{Bytes, bytes_drop, bytes_take, value, value_below, low_first-value, weighed, weighed_all}
 use Rattle.model.proofs.Coding.{Code, code_count, code_signed, powers}
 use Rattle.model.proofs.Codes.{fits_64}
 use Rattle.model.proofs.Things.{plane_code, place_code}
@@ -29,13 +29,13 @@ module _ (w : Width) (k : ℕ) (n : bytes w ≡ suc k) (l : List ℕ) (at : ℕ)
   are_bytes = bytes_take (at + bytes w - at) (drop at l) (bytes_drop at l b)
 
   small : value part < 2 ^ bits w
-  small = subst (λ (i : ℕ). value part < i) (ap (λ (i : ℕ). 256 ^ i) long ∙ powers w) (value-below part are_bytes)
+  small = subst (λ (i : ℕ). value part < i) (ap (λ (i : ℕ). 256 ^ i) long ∙ powers w) (value_below part are_bytes)
 
   written : part ≡ low_first (bytes w) (value part)
   written = sym (low_first-value part are_bytes) ∙ ap (λ (i : ℕ). low_first i (value part)) long
 
   is_value : {bs : List ℕ} → bs ≡ part → weighed k bs ≡ value part
-  is_value e = ap (weighed k) e ∙ weighed-all k part (long ∙ n)
+  is_value e = ap (weighed k) e ∙ weighed_all k part (long ∙ n)
 
   pub count_read : {bs : List ℕ} {r : ℕ} → bs ≡ between at (at + bytes w) l → r ≡ weighed k bs → Decoded (count_bytes w) (λ (i : ℕ). i < 2 ^ bits w) (between at (at + bytes w) l) r
   unfolding count_bytes part

@@ -50,12 +50,12 @@ low_first-value (b ∷ bs) h =
     let d : (b + 256 * value bs) / 256 ≡ value bs = omega arith in
     rw (m, d) (ap (λ (x : List ℕ). b ∷ x) (low_first-value bs (λ i. h (suc i))))
 
-pub value-below : (bs : List ℕ) → Bytes bs → value bs < 256 ^ length bs
-value-below [] h = omega arith
-value-below (b ∷ bs) h =
+pub value_below : (bs : List ℕ) → Bytes bs → value bs < 256 ^ length bs
+value_below [] h = omega arith
+value_below (b ∷ bs) h =
     let l : b < 256 = (h 0).fits in
     let e : 256 ^ suc (length bs) ≡ 256 ^ length bs * 256 = pow-suc 256 (length bs) in
-    let r : value bs < 256 ^ length bs = value-below bs (λ i. h (suc i)) in
+    let r : value bs < 256 ^ length bs = value_below bs (λ i. h (suc i)) in
     omega arith
 
 -- the k bytes of n from the one of weight w on
@@ -69,8 +69,8 @@ low_first_from (suc k) w n =
     ap (λ (x : List ℕ). (n / w % 256) ∷ x) (ap (low_first k) (div-div-eq-div-mul n w 256) ∙ low_first_from k (w * 256) n)
 
 -- a number's bytes, each by its weight
-pub by-weight : (k n : ℕ) → low_first (suc k) n ≡ (n % 256) ∷ from_weight k 256 n
-by-weight k n = ap (λ (x : List ℕ). (n % 256) ∷ x) (low_first_from k 256 n)
+pub by_weight : (k n : ℕ) → low_first (suc k) n ≡ (n % 256) ∷ from_weight k 256 n
+by_weight k n = ap (λ (x : List ℕ). (n % 256) ∷ x) (low_first_from k 256 n)
 
 value-append : (xs ys : List ℕ) → value (xs ++ ys) ≡ value xs + value ys * 256 ^ length xs
 value-append [] ys = omega arith
@@ -86,17 +86,17 @@ abbrev pub weighed : ℕ → List ℕ → ℕ
 weighed zero bs = get_or bs 0 0
 weighed (suc k) bs = weighed k bs + get_or bs (suc k) 0 * 256 ^ suc k
 
-weighed-taken : (k : ℕ) (bs : List ℕ) → k < length bs → weighed k bs ≡ value (take (suc k) bs)
-weighed-taken zero [] h = absurd (omega arith)
-weighed-taken zero (b ∷ bs) h = omega arith
-weighed-taken (suc k) bs h =
+weighed_taken : (k : ℕ) (bs : List ℕ) → k < length bs → weighed k bs ≡ value (take (suc k) bs)
+weighed_taken zero [] h = absurd (omega arith)
+weighed_taken zero (b ∷ bs) h = omega arith
+weighed_taken (suc k) bs h =
     let b = get_or bs (suc k) 0 in
     let l : length (take (suc k) bs) ≡ suc k = length-take-le (suc k) bs (omega arith) in
     let e : value (take (suc k) bs ++ b ∷ []) ≡ value (take (suc k) bs) + (b + 256 * 0) * 256 ^ length (take (suc k) bs) = value-append (take (suc k) bs) (b ∷ []) in
     let z : (b + 256 * 0) * 256 ^ length (take (suc k) bs) ≡ b * 256 ^ suc k = ap₂ (λ (m n : ℕ). m * 256 ^ n) (add-zero b) l in
-    ap (λ (n : ℕ). n + b * 256 ^ suc k) (weighed-taken k bs (omega arith))
+    ap (λ (n : ℕ). n + b * 256 ^ suc k) (weighed_taken k bs (omega arith))
     ∙ sym (e ∙ ap (λ (n : ℕ). value (take (suc k) bs) + n) z)
     ∙ ap value (sym (take-suc bs (suc k) 0 h))
 
-pub weighed-all : (k : ℕ) (bs : List ℕ) → length bs ≡ suc k → weighed k bs ≡ value bs
-weighed-all k bs h = weighed-taken k bs (omega arith) ∙ ap value (take_all (suc k) bs (omega arith))
+pub weighed_all : (k : ℕ) (bs : List ℕ) → length bs ≡ suc k → weighed k bs ≡ value bs
+weighed_all k bs h = weighed_taken k bs (omega arith) ∙ ap value (take_all (suc k) bs (omega arith))

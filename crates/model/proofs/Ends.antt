@@ -8,7 +8,7 @@ use Rattle.model.specs.Format.{count_bytes, listed, plane_bytes, place_bytes, pi
 use Rattle.model.specs.Finds.{Few, Decoded, Stands, Found, Skipped, ListEnds}
 use Rattle.model.proofs.Digits.{Bytes}
 use Rattle.model.proofs.Coding.{Code, Both, both, code_listed}
-use Rattle.model.proofs.Codes.{length_count, length-plane, length-place}
+use Rattle.model.proofs.Codes.{length_count, length-plane_bytes, length-place_bytes}
 use Rattle.model.proofs.Things.{plane_code, place_code, piece_as, face_as}
 use Rattle.model.proofs.Finding.{found_sized, found_behind, found_not, found_as, found_list, found_listed, SoFar, so_far_stop}
 use Rattle.model.proofs.Standing.{stands_as}
@@ -35,16 +35,16 @@ module _ {X : Type 0} {f : X → List ℕ} {R : X → Type 0} {k : ℕ} (j : Cod
 
 module _ (l : List ℕ) (b : Bytes l) where
   planes_found : (at : ℕ) (r : Option ℕ) → ListEnds l at 7 r → Found (listed w16 plane_bytes) (Few InRangePlane w16) l at r
-  planes_found = found_list plane_code length-plane l b
+  planes_found = found_list plane_code length-plane_bytes l b
 
   places_found : (at : ℕ) (r : Option ℕ) → ListEnds l at 32 r → Found (listed w16 place_bytes) (Few InRangePlace w16) l at r
-  places_found = found_list place_code length-place l b
+  places_found = found_list place_code length-place_bytes l b
 
   plane_found : (at : ℕ) → at ≤ length l → (r : Option ℕ) → Skipped l at 7 r → Found plane_bytes InRangePlane l at r
-  plane_found = found_sized plane_code (λ p h. length-plane p) l b
+  plane_found = found_sized plane_code (λ p h. length-plane_bytes p) l b
 
   place_found : (at : ℕ) → at ≤ length l → (r : Option ℕ) → Skipped l at 32 r → Found place_bytes InRangePlace l at r
-  place_found = found_sized place_code (λ q h. length-place q) l b
+  place_found = found_sized place_code (λ q h. length-place_bytes q) l b
 
   pub piece_found : (at place : ℕ) → ListEnds l at 7 (Some place) → (r : Option ℕ) → Skipped l place 32 r → Found piece_bytes InRangePiece l at r
   piece_found at place p r q =

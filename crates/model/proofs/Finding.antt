@@ -9,7 +9,7 @@ use Rattle.model.specs.Format.{count_bytes, listed}
 use Rattle.model.specs.Finds.{Few, Stands, Found, Skipped, ListEnds}
 use Rattle.model.proofs.Digits.{Bytes, bytes_drop}
 use Rattle.model.proofs.Coding.{Code, As, as_back, both, Both, Many, code_count, code_joined}
-use Rattle.model.proofs.Codes.{length_count, length-joined}
+use Rattle.model.proofs.Codes.{length_count, length-flat_map}
 use Rattle.model.proofs.Standing.{front_stands, stands_front, stands_both, stands_split, stands_nil, stands_as}
 
 -- what stands at a place is one thing, with one end
@@ -89,14 +89,14 @@ pub found_list : {X : Type 0} {f : X → List ℕ} {R : X → Type 0} {n : ℕ} 
 found_list {f = f} {R = R} {n = n} k long l b at r (inl p) = subst (Found (listed w16 f) (Few R w16) l at) (sym p.1) (found_no_number f R w16 l at p.0)
 found_list {f = f} {R = R} {n = n} k long l b at r (inr p) =
     found_listed f R w16 p.1 p.2 r
-    (found_sized (code_joined k p.0) (λ xs h. length-joined f n long xs ∙ ap (λ (i : ℕ). n * i) h.0) l b (at + 2) p.2.within r p.3)
+    (found_sized (code_joined k p.0) (λ xs h. length-flat_map f n long xs ∙ ap (λ (i : ℕ). n * i) h.0) l b (at + 2) p.2.within r p.3)
 
 -- the first i of a list of things, from `from` to `at`
 abbrev pub SoFar : {X : Type 0} → (X → List ℕ) → (X → Type 0) → List ℕ → ℕ → ℕ → ℕ → Type 0
 SoFar {X} f R l from i at = (xs : List X) × Many R i xs × Stands l from (flat_map f xs) at
 
-pub so_far-none : {X : Type 0} (f : X → List ℕ) (R : X → Type 0) (l : List ℕ) (from : ℕ) → from ≤ length l → SoFar f R l from 0 from
-so_far-none f R l from h = ([], (refl, tt), stands_nil l from h)
+pub so_far_none : {X : Type 0} (f : X → List ℕ) (R : X → Type 0) (l : List ℕ) (from : ℕ) → from ≤ length l → SoFar f R l from 0 from
+so_far_none f R l from h = ([], (refl, tt), stands_nil l from h)
 
 pub so_far_more : {X : Type 0} {f : X → List ℕ} {R : X → Type 0} {l : List ℕ} {from i at end : ℕ} → SoFar f R l from i at → Found f R l at (Some end) → SoFar f R l from (i + 1) end
 so_far_more {f = f} {R = R} p q = (

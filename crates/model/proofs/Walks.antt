@@ -6,7 +6,7 @@ use Rattle.model.specs.Wire.{WirePlace, WirePiece, WireFace}
 use Rattle.model.specs.Format.{count_bytes, listed, plane_bytes, place_bytes, piece_bytes, face_bytes}
 use Rattle.model.specs.Finds.{Decoded, Stands, Found}
 use Rattle.model.proofs.Coding.{Code}
-use Rattle.model.proofs.Codes.{length-plane, length-place, length-listed}
+use Rattle.model.proofs.Codes.{length-plane_bytes, length-place_bytes, length-listed}
 use Rattle.model.proofs.Standing.{Split, stands_split, stands_as}
 use Rattle.model.proofs.Finding.{one_thing, listed_stands}
 
@@ -84,16 +84,16 @@ behind : {l : List ℕ} {a c : ℕ} (bs cs : List ℕ) {b : ℕ} → b ≡ a + l
 behind bs cs e u = stands_as (sym e) refl refl u.second
 
 -- a place that ends there
-place-ends : {l : List ℕ} {at end : ℕ} (q : WirePlace) → Stands l at (place_bytes q) end → at + 32 ≡ end
-place-ends {at = at} q s = ap (λ (n : ℕ). at + n) (sym (length-place q)) ∙ s.long
+place_ends : {l : List ℕ} {at end : ℕ} (q : WirePlace) → Stands l at (place_bytes q) end → at + 32 ≡ end
+place_ends {at = at} q s = ap (λ (n : ℕ). at + n) (sym (length-place_bytes q)) ∙ s.long
 
 pub piece_parts : {l : List ℕ} {at end : ℕ} (c : WirePiece) → Stands l at (piece_bytes c) end → PieceParts l at c end
 unfolding piece_bytes
 piece_parts {l} {at} {end} c s =
     let u = stands_split (listed w16 plane_bytes c.planes) (place_bytes c.place) s in
-    let p = of_size plane_bytes 7 length-plane c.planes u.first in
+    let p = of_size plane_bytes 7 length-plane_bytes c.planes u.first in
     let q = behind (listed w16 plane_bytes c.planes) (place_bytes c.place) p.ends u in
-    let e = place-ends c.place q in
+    let e = place_ends c.place q in
     record { planes = record { number = p.number; each = p.each; ends = refl }; place = stands_as refl refl (sym e) q; ends = e }
 
 -- the parts of a face
@@ -110,14 +110,14 @@ face_parts {l} {at} {end} f s =
     let q = place_bytes f.place in
     let vs = listed w16 place_bytes f.corners in
     let u = stands_split (plane_bytes f.plane) (es ++ (q ++ vs)) s in
-    let e : at + 7 ≡ at + length (plane_bytes f.plane) = ap (λ (n : ℕ). at + n) (sym (length-plane f.plane)) in
+    let e : at + 7 ≡ at + length (plane_bytes f.plane) = ap (λ (n : ℕ). at + n) (sym (length-plane_bytes f.plane)) in
     let v = stands_split es (q ++ vs) (behind (plane_bytes f.plane) (es ++ (q ++ vs)) e u) in
-    let p = of_size plane_bytes 7 length-plane f.edges v.first in
+    let p = of_size plane_bytes 7 length-plane_bytes f.edges v.first in
     let w = stands_split q vs (behind es (q ++ vs) p.ends v) in
-    let z = place-ends f.place w.first in
+    let z = place_ends f.place w.first in
     record {
       plane = stands_as refl refl (sym e) u.first;
       edges = record { number = p.number; each = p.each; ends = refl };
       place = stands_as refl refl (sym z) w.first;
-      corners = of_size place_bytes 32 length-place f.corners (behind q vs z w);
+      corners = of_size place_bytes 32 length-place_bytes f.corners (behind q vs z w);
     }

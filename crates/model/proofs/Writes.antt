@@ -66,9 +66,9 @@ listing_all {X} f xs {m} {bs} {m1} {m2} {a} {i} {n} v h w l =
 pub room_left : (a : ℕ) (m : List ℕ) (k : ℕ) → a + k ≤ length m → k ≤ length (part a m)
 room_left a m k h = subst (λ (l : List ℕ). k ≤ length l) (sym (take_rest m a)) (omega (arith, length-drop a m))
 
-pub joined-map : {X Y : Type 0} (f : Y → List ℕ) (g : X → Y) (xs : List X) → flat_map (λ x. f (g x)) xs ≡ flat_map f (map g xs)
-joined-map f g [] = refl
-joined-map f g (x ∷ xs) = ap (λ (l : List ℕ). f (g x) ++ l) (joined-map f g xs)
+pub flat_map-map : {X Y : Type 0} (f : Y → List ℕ) (g : X → Y) (xs : List X) → flat_map (λ x. f (g x)) xs ≡ flat_map f (map g xs)
+flat_map-map f g [] = refl
+flat_map-map f g (x ∷ xs) = ap (λ (l : List ℕ). f (g x) ++ l) (flat_map-map f g xs)
 
 pub regroup₄ : (a b c d : List ℕ) → ((a ++ b) ++ c) ++ d ≡ a ++ (b ++ (c ++ d))
 regroup₄ a b c d = simp append_assoc

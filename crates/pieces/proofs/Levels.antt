@@ -1,23 +1,14 @@
 -- The planes of two parts and of the workshop are level.
-use Rattle.std.proofs.Common.{◌≡◌, ℕ, ◌-◌, ◌≤◌, ◌⊎◌, List, [], ◌∷◌, ◌++◌, take, nat_abs, refl, ap, ◌∙◌, subst, inl, inr, arith, lit≤}
+use Rattle.std.proofs.Common.{◌≡◌, ℕ, ◌-◌, ◌≤◌, ◌⊎◌, List, ◌++◌, take, nat_abs, refl, ap, ◌∙◌, inl, inr, arith, lit≤}
 use native.Mathlib.Nat.{sub-zero}
-use Rattle.std.specs.List.{AllByRecursion}
 use Rattle.plane.specs.declared.types.Plane.{Plane}
 use Rattle.plane.specs.Limits.{FitsPlane, offset_limit}
 use Rattle.solid.specs.Shapes.{Has, planes, solid, workshop, box}
 use Rattle.solid.specs.Stacks.{shape_of}
-use Rattle.solid.proofs.Members.{has_none, has_either, has_part}
+use Rattle.solid.proofs.Members.{has_part, each_of}
 use Rattle.search.specs.Levels.{Level, AllLevel}
 use Rattle.pieces.specs.Questions.{planes_of_two, LevelSteps}
 use Rattle.pieces.proofs.Shaped.{coded_fits}
-
-has_all : {A : Type 0} (P : A → Type 0) (xs : List A) → AllByRecursion P xs → (x : A) → Has xs x → P x
-has_all P [] a x h = absurd (has_none x h)
-has_all P (y ∷ xs) a x h = go (has_either y x xs h) (has_all P xs a.1 x)
-  where
-    go : (y ≡ x) ⊎ Has xs x → (Has xs x → P x) → P x
-    go (inl e) f = subst P e a.0
-    go (inr k) f = f k
 
 abbrev Good : Plane → Type 0
 Good p = FitsPlane p × Level p
@@ -41,7 +32,7 @@ level_good p l d = (
 
 walls : (p : Plane) → Has (planes workshop) p → Good p
 unfolding planes workshop box
-walls = has_all Good (planes workshop)
+walls = each_of Good (planes workshop)
     (level_good _ refl (lit≤ tt), (level_good _ refl (lit≤ tt), (level_good _ refl (lit≤ tt), (level_good _ refl (lit≤ tt), (level_good _ refl (lit≤ tt), (level_good _ refl (lit≤ tt), tt))))))
 
 steps_good : (ws : List ℕ) → LevelSteps ws → (p : Plane) → Has (planes (shape_of ws)) p → Good p

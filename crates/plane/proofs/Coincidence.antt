@@ -5,7 +5,7 @@ use Rattle.std.proofs.Common.{◌≡◌, true, ℤ, pos, negsuc, ◌+ℤ◌, ◌
 use lib.IntN.{zero-*ℤ}
 use Rattle.std.proofs.lemmas.Int.{ints}
 use Rattle.std.proofs.lemmas.Bool.{cases_Bool}
-use Rattle.arith.proofs.Order.{minus, plus, sgn, times, sgn_mul, sgn-scaled, says-sgn, cancel_zero_pos, squares_zero, squares_positive}
+use Rattle.arith.proofs.Order.{minus, plus, sgn, times, sgn_mul, sgn_scaled, says_sgn, cancel_zero_pos, squares_zero, squares_positive}
 use Rattle.arith.proofs.Poly.{Expr, con, ◌:+◌, ◌:-◌, ◌:*◌}
 use Rattle.arith.proofs.Solve.{solve, ◌:=◌, ◌·◌⇒◌, ◌⟹◌}
 use Rattle.plane.specs.declared.types.Plane.{Plane}
@@ -14,7 +14,7 @@ use Rattle.plane.specs.Limits.{Sloped}
 use Rattle.plane.specs.Planes.{height, on, turned, along, OneAlike, OneOpposite, Apart}
 use Rattle.plane.specs.Ratios.{multiplied, InRatio}
 use Rattle.plane.proofs.Formulas.{Height, Dot}
-use Rattle.plane.proofs.Heights.{same-side, on-height, height-on}
+use Rattle.plane.proofs.Heights.{same_side, on-height, height-on}
 use Rattle.plane.proofs.Invariance.{sign_turned}
 use Rattle.plane.proofs.Places.{place, height-place, size_real}
 use Rattle.plane.proofs.Ranges.{made}
@@ -33,15 +33,15 @@ module _ (p r : Plane) (s : Sloped p) (e : InRatio p r) where
   sign_in_ratio : (q : Place) → sgn (height r q) ≡ times (sgn (along p r)) (sgn (height p q))
   sign_in_ratio q =
       let h = sym (height-multiplied (along p p) r q) ∙ ap (λ (m : Plane). height m q) e ∙ height-multiplied (along p r) p q in
-      sym (sgn-scaled (along p p) (height r q) (length_positive p s)) ∙ ap sgn h ∙ sgn_mul (along p r) (height p q)
+      sym (sgn_scaled (along p p) (height r q) (length_positive p s)) ∙ ap sgn h ∙ sgn_mul (along p r) (height p q)
 
   pub alike : pos 0 <ℤ along p r → OneAlike p r
-  alike k q w = (same-side r q p q (sign_in_ratio q ∙ ap (λ t. times t (sgn (height p q))) (says-sgn plus (along p r) k))).in_side
+  alike k q w = (same_side r q p q (sign_in_ratio q ∙ ap (λ t. times t (sgn (height p q))) (says_sgn plus (along p r) k))).in_side
 
   pub opposite : along p r <ℤ pos 0 → OneOpposite p r
   opposite k q w =
-      (same-side r q (turned p) q
-      (sign_in_ratio q ∙ ap (λ t. times t (sgn (height p q))) (says-sgn minus (along p r) k) ∙ sym (sign_turned p q))).in_side
+      (same_side r q (turned p) q
+      (sign_in_ratio q ∙ ap (λ t. times t (sgn (height p q))) (says_sgn minus (along p r) k) ∙ sym (sign_turned p q))).in_side
 
   -- the ratio is not 0
   vanishes : (x y : ℤ) → along p p *ℤ x ≡ along p r *ℤ y → along p r ≡ pos 0 → x ≡ pos 0

@@ -11,9 +11,9 @@ use Rattle.plane.specs.Cramer.{offset_first, numerator_x, numerator_y, numerator
 use Rattle.plane.proofs.Formulas.{Determinant}
 use Rattle.plane.proofs.Ranges.{rolled_fits}
 
-pub turn-rows : (p q r : Plane) → determinant q r p ≡ determinant p q r
+pub turn_rows : (p q r : Plane) → determinant q r p ≡ determinant p q r
 unfolding determinant
-turn-rows p q r =
+turn_rows p q r =
     solve 9 (λ a b c e f g i j k. Determinant e f g i j k a b c := Determinant a b c e f g i j k) refl
     p.a p.b p.c q.a q.b q.c r.a r.b r.c
 
@@ -34,9 +34,9 @@ sum_limit n =
     (n * (slope_limit * slope_limit + slope_limit * slope_limit) + slope_limit * (slope_limit * n + n * slope_limit))
     + slope_limit * (n * slope_limit + slope_limit * n)
 
-determinant-short : (n : ℕ) {p q r : Plane} → Row n p → Row n q → Row n r → Short (determinant p q r) (sum_limit n)
+determinant_short : (n : ℕ) {p q r : Plane} → Row n p → Row n q → Row n r → Short (determinant p q r) (sum_limit n)
 unfolding determinant
-determinant-short n f g h =
+determinant_short n f g h =
     let i = is_sub (is_mul (is_self g.b) (is_self h.c)) (is_mul (is_self g.c) (is_self h.b)) in
     let j = is_sub (is_mul (is_self g.c) (is_self h.a)) (is_mul (is_self g.a) (is_self h.c)) in
     let k = is_sub (is_mul (is_self g.a) (is_self h.b)) (is_mul (is_self g.b) (is_self h.a)) in
@@ -46,7 +46,7 @@ slopes : {p : Plane} → FitsPlane p → Row slope_limit p
 slopes f = record { a = f.a; b = f.b; c = f.c }
 
 pub determinant_small : {p q r : Plane} → FitsPlane p → FitsPlane q → FitsPlane r → Short (determinant p q r) determinant_limit
-determinant_small f g h = determinant-short slope_limit (slopes f) (slopes g) (slopes h)
+determinant_small f g h = determinant_short slope_limit (slopes f) (slopes g) (slopes h)
 
 offset : {p : Plane} → FitsPlane p → Row offset_limit (offset_first p)
 unfolding offset_first
@@ -54,7 +54,7 @@ offset f = record { a = f.d; b = f.b; c = f.c }
 
 pub x_short : {p q r : Plane} → FitsPlane p → FitsPlane q → FitsPlane r → Short (numerator_x p q r) corner_limit
 unfolding numerator_x
-x_short f g h = determinant-short offset_limit (offset f) (offset g) (offset h)
+x_short f g h = determinant_short offset_limit (offset f) (offset g) (offset h)
 
 pub z_short : {p q r : Plane} → FitsPlane p → FitsPlane q → FitsPlane r → Short (numerator_z p q r) corner_limit
 unfolding numerator_z

@@ -1,12 +1,12 @@
 -- What leaves a place on its side, and what takes it to the other.
 --     height-turned, turned-below, turned_on, turned-side      the plane turned round
---     height-scaled, scaled-side, one_place-side               the place in other terms
+--     height-scaled, scaled_side, one_place_side               the place in other terms
 --     moved_together, mirrored_together, ..                    planes and places moved together
 --     together_side                                            what such a pair of moves keeps
 use Rattle.std.proofs.Common.{◌≡◌, ℕ, ◌<◌, not, ◌||◌, pos, ◌*ℤ◌, neg_ℤ, ◌<ℤ◌, sym, refl, ap, ◌∙◌, arith}
 use lib.IntN.{*ℤ_comm}
 use Rattle.std.proofs.lemmas.Int.{ints}
-use Rattle.arith.proofs.Order.{Sign, minus, none, plus, sgn, opposite, sgn_neg, sgn-scaled}
+use Rattle.arith.proofs.Order.{Sign, minus, none, plus, sgn, opposite, sgn_neg, sgn_scaled}
 use Rattle.arith.proofs.Poly.{neg_e, ◌:+◌, ◌:*◌}
 use Rattle.arith.proofs.Solve.{solve, ◌:=◌, ◌·◌⇒◌}
 use Rattle.plane.specs.declared.types.Plane.{Plane}
@@ -15,7 +15,7 @@ use Rattle.plane.specs.declared.types.Shift.{Shift}
 use Rattle.plane.specs.Planes.{height, below, on, side, turned, scaled, SamePlace}
 use Rattle.plane.specs.Moves.{Together, moved_plane, moved_place, mirrored_plane, mirrored_place, swapped_plane, swapped_place, rolled_plane, rolled_place}
 use Rattle.plane.proofs.Formulas.{Height}
-use Rattle.plane.proofs.Heights.{SameSide, same-side, is_minus, is_none, side_at, sign_at, side-sgn, below_is, on_is, side_is}
+use Rattle.plane.proofs.Heights.{SameSide, same_side, is_minus, is_none, side_at, sign_at, side-sgn, below_is, on_is, side_is}
 
 -- ---- the plane turned round
 pub height-turned : (p : Plane) (q : Place) → height (turned p) q ≡ neg_ℤ (height p q)
@@ -51,15 +51,15 @@ unfolding height scaled
 height-scaled p k q = solve 9 (λ a b c d x y z w k. Height a b c d (x :* k) (y :* k) (z :* k) (w :* k) := Height a b c d x y z w :* k) refl
     p.a p.b p.c p.d q.x q.y q.z (pos q.w) (pos k)
 
-pub scaled-side : (p : Plane) (k : ℕ) (q : Place) → 0 < k → SameSide p (scaled k q) p q
-scaled-side p k q h =
+pub scaled_side : (p : Plane) (k : ℕ) (q : Place) → 0 < k → SameSide p (scaled k q) p q
+scaled_side p k q h =
     let l : pos 0 <ℤ pos k = omega (arith, ints) in
-    same-side p (scaled k q) p q (ap sgn (height-scaled p k q ∙ *ℤ_comm (height p q) (pos k)) ∙ sgn-scaled (pos k) (height p q) l)
+    same_side p (scaled k q) p q (ap sgn (height-scaled p k q ∙ *ℤ_comm (height p q) (pos k)) ∙ sgn_scaled (pos k) (height p q) l)
 
 -- ---- one place in two forms
-pub one_place-side : (p : Plane) (q r : Place) → SamePlace q r → 0 < q.w → 0 < r.w → SameSide p q p r
+pub one_place_side : (p : Plane) (q r : Place) → SamePlace q r → 0 < q.w → 0 < r.w → SameSide p q p r
 unfolding height
-one_place-side p q r e h k =
+one_place_side p q r e h k =
     let l : pos 0 <ℤ pos q.w = omega (arith, ints) in
     let m : pos 0 <ℤ pos r.w = omega (arith, ints) in
     let s : pos r.w *ℤ height p q ≡ pos q.w *ℤ height p r =
@@ -67,7 +67,7 @@ one_place-side p q r e h k =
     a · x :* l := i :* w ⇒ b · y :* l := j :* w ⇒ c · z :* l := k :* w ⇒
     l :* Height a b c d x y z w := w :* Height a b c d i j k l) refl
     p.a p.b p.c p.d q.x q.y q.z (pos q.w) r.x r.y r.z (pos r.w) e.x e.y e.z in
-    same-side p q p r (sym (sgn-scaled (pos r.w) (height p q) m) ∙ ap sgn s ∙ sgn-scaled (pos q.w) (height p r) l)
+    same_side p q p r (sym (sgn_scaled (pos r.w) (height p q) m) ∙ ap sgn s ∙ sgn_scaled (pos q.w) (height p r) l)
 
 -- ---- planes and places moved together
 pub moved_together : (t : Shift) → Together (moved_plane t) (moved_place t)
@@ -92,4 +92,4 @@ rolled_together p q = solve 8 (λ a b c d x y z w. Height c a b d z x y w := Hei
     p.a p.b p.c p.d q.x q.y q.z (pos q.w)
 
 pub together_side : (f : Plane → Plane) (g : Place → Place) → Together f g → (p : Plane) (q : Place) → SameSide (f p) (g q) p q
-together_side f g e p q = same-side (f p) (g q) p q (ap sgn (e p q))
+together_side f g e p q = same_side (f p) (g q) p q (ap sgn (e p q))

@@ -1,4 +1,5 @@
 pub mod Formulas
+pub mod Tests
 pub mod Heights
 pub mod Invariance
 pub mod Ranges

@@ -16,7 +16,7 @@ use Rattle.plane.specs.Cramer.{offset_first, numerator_x, numerator_y, numerator
 use Rattle.plane.proofs.Formulas.{Height, Determinant}
 use Rattle.plane.proofs.Heights.{on-height, height-on}
 use Rattle.plane.proofs.Invariance.{rolled_together}
-use Rattle.plane.proofs.Determinants.{turn-rows, turn_columns, determinant_small, x_short, y_short, z_short}
+use Rattle.plane.proofs.Determinants.{turn_rows, turn_columns, determinant_small, x_short, y_short, z_short}
 
 -- ---- on all three
 pub record At (p q r : Plane) (s : Place) (m : ℤ) : Type 0 where
@@ -25,13 +25,13 @@ pub record At (p q r : Plane) (s : Place) (m : ℤ) : Type 0 where
   pub at_z : s.z ≡ m *ℤ numerator_z p q r
   pub at_w : pos s.w ≡ m *ℤ determinant p q r
 
-at-turned : {p q r : Plane} {s : Place} {m : ℤ} → At p q r s m → At q r p s m
+at_turned : {p q r : Plane} {s : Place} {m : ℤ} → At p q r s m → At q r p s m
 unfolding numerator_x numerator_y numerator_z
-at-turned {p} {q} {r} {s} {m} a = record {
-  at_x = a.at_x ∙ ap (λ (n : ℤ). m *ℤ n) (sym (turn-rows (offset_first p) (offset_first q) (offset_first r)));
-  at_y = a.at_y ∙ ap (λ (n : ℤ). m *ℤ n) (sym (turn-rows _ _ _));
-  at_z = a.at_z ∙ ap (λ (n : ℤ). m *ℤ n) (sym (turn-rows _ _ _));
-  at_w = a.at_w ∙ ap (λ (n : ℤ). m *ℤ n) (sym (turn-rows p q r));
+at_turned {p} {q} {r} {s} {m} a = record {
+  at_x = a.at_x ∙ ap (λ (n : ℤ). m *ℤ n) (sym (turn_rows (offset_first p) (offset_first q) (offset_first r)));
+  at_y = a.at_y ∙ ap (λ (n : ℤ). m *ℤ n) (sym (turn_rows _ _ _));
+  at_z = a.at_z ∙ ap (λ (n : ℤ). m *ℤ n) (sym (turn_rows _ _ _));
+  at_w = a.at_w ∙ ap (λ (n : ℤ). m *ℤ n) (sym (turn_rows p q r));
 }
 
 on_first : (p q r : Plane) (s : Place) (m : ℤ) → At p q r s m → height p s ≡ pos 0
@@ -98,8 +98,8 @@ module _ (p q r : Plane) (f : FitsPlane p) (g : FitsPlane q) (h : FitsPlane r) w
   meet_at s m a l w x y z = record {
     real = l;
     on_first = height-on p s (on_first p q r s m a);
-    on_second = height-on q s (on_first q r p s m (at-turned a));
-    on_third = height-on r s (on_first r p q s m (at-turned (at-turned a)));
+    on_second = height-on q s (on_first q r p s m (at_turned a));
+    on_third = height-on r s (on_first r p q s m (at_turned (at_turned a)));
     only = λ t k i j o. same_place p q r s m a t (record { first = on-height p t i; second = on-height q t j; third = on-height r t o });
     w_small = w;
     x_small = x;

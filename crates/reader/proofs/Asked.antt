@@ -21,22 +21,22 @@ use Rattle.reader.specs.declared.types.Counts.{Counts}
 use Rattle.reader.specs.Layout.{Laid, with_part, part_steps, spot, asked_words}
 use Rattle.reader.proofs.Spots.{names_of, steps_of, steps_push}
 use Rattle.reader.proofs.Next.{part_sound, place_sound}
-use Rattle.reader.proofs.Numbers.{Numbers, box-numbers, Coordinates, place-numbers}
+use Rattle.reader.proofs.Numbers.{Numbers, box_numbers, Coordinates, place_numbers}
 
 -- a box in range
 each : (ps : List Plane) → AllByRecursion FitsPlane ps → (p : Plane) → Has ps p → FitsPlane p
 each [] f p h = absurd (has_none p h)
 each (q ∷ ps) f p h = elim (has_either q p ps h) [ inl e ↦ subst FitsPlane e f.0 | inr k ↦ each ps f.1 p k ]
 
-turned-short : (z : ℤ) → Short z number_limit → Short (neg_ℤ z) number_limit
-turned-short z s = let h = s.size in record { size = omega (arith, ints) }
+turned_short : (z : ℤ) → Short z number_limit → Short (neg_ℤ z) number_limit
+turned_short z s = let h = s.size in record { size = omega (arith, ints) }
 
 box_fits : (x0 x1 y0 y1 z0 z1 : ℤ) → Numbers x0 x1 y0 y1 z0 z1 → Fits (box_of x0 x1 y0 y1 z0 z1)
 unfolding planes box_of
 box_fits x0 x1 y0 y1 z0 z1 n =
-    let t0 = turned-short x0 n.x0 in
-    let t1 = turned-short y0 n.y0 in
-    let t2 = turned-short z0 n.z0 in
+    let t0 = turned_short x0 n.x0 in
+    let t1 = turned_short y0 n.y0 in
+    let t2 = turned_short z0 n.z0 in
     let f : AllByRecursion FitsPlane (planes (box_of x0 x1 y0 y1 z0 z1)) = search rules in
     record { few = omega arith; each = each (planes (box_of x0 x1 y0 y1 z0 z1)) f }
 
@@ -168,7 +168,7 @@ module _ (ps : List Part) (n : List ℕ) (x y z w : ℤ) (more : List ℕ) (f : 
 
 shape_fits : (ps : List Part) (e : Expr) → fine_shape e ≡ true → Fits (says ps e)
 shape_fits ps (half a b c d) h = absurd (both_ways false refl h)
-shape_fits ps (box x0 x1 y0 y1 z0 z1) h = box_fits x0 x1 y0 y1 z0 z1 (box-numbers x0 x1 y0 y1 z0 z1 h)
+shape_fits ps (box x0 x1 y0 y1 z0 z1) h = box_fits x0 x1 y0 y1 z0 z1 (box_numbers x0 x1 y0 y1 z0 z1 h)
 shape_fits ps (two o e f) h = absurd (both_ways false refl h)
 shape_fits ps (move x y z e) h = absurd (both_ways false refl h)
 shape_fits ps (one o e) h = absurd (both_ways false refl h)
@@ -189,7 +189,7 @@ lies_from ps (place n x y z w ∷ ls) a h zero l d =
     let s = place_sound (names_of ps) n x y z w ls h in
     let f = found 0 ps n.0 a s.known in
     let aw = asked_words ps ls in
-    let q = first ps n.0 x y z w aw f (place-numbers x y z w s.numbers) in
+    let q = first ps n.0 x y z w aw f (place_numbers x y z w s.numbers) in
     moved (steps_of ps) (part_steps ps ls) _ _ 0 0 _ q.inside (λ i b. refl) q
 lies_from ps (place n x y z w ∷ ls) a h (suc k) l d =
     let s = place_sound (names_of ps) n x y z w ls h in

@@ -55,10 +55,10 @@ module _ (bs : List ℕ) (read : ℕ) (names : List ℕ) (parts : ℕ) (e : Expe
   seen f = here ∙ cond-true (whole read word) _ _ f
 
   -- a word that is right, with the names after it
-  pub turn-next : (f : Expect) (names' : List ℕ) (parts' : ℕ) → whole read word ≡ true → Looked (Next f) e (words_at bs (take parts names)) word →
+  pub turn_next : (f : Expect) (names' : List ℕ) (parts' : ℕ) → whole read word ≡ true → Looked (Next f) e (words_at bs (take parts names)) word →
       words_at bs (take parts' names') ≡ with_name e (words_at bs (take parts names)) word.word → ((j : ℕ) → j < parts' → get_or names' j 0 < length bs) →
       Scanned bs read names' parts' f (drop (k + 1) ps)
-  turn-next f names' parts' g l n i =
+  turn_next f names' parts' g l n i =
       let ns = words_at bs (take parts names) in
       let rest = rest_of bs read (drop (k + 1) ps) in
       record {
@@ -86,26 +86,26 @@ module _ (bs : List ℕ) (read : ℕ) (names : List ℕ) (parts : ℕ) (e : Expe
       )
 
 -- the end
-pub turn-over : (bs : List ℕ) (read : ℕ) (names : List ℕ) (parts : ℕ) (e : Expect) (ps : List ℕ) (k : ℕ) → length ps ≤ k → Scanned bs read names parts e (drop k ps) →
+pub turn_over : (bs : List ℕ) (read : ℕ) (names : List ℕ) (parts : ℕ) (e : Expect) (ps : List ℕ) (k : ℕ) → length ps ≤ k → Scanned bs read names parts e (drop k ps) →
     (word_faults read bs ≡ []) × (words_at bs (take parts names) ≡ named_in [] (looked read bs))
-turn-over bs read names parts e ps k h inv =
+turn_over bs read names parts e ps k h inv =
     let ns = words_at bs (take parts names) in
     let r : rest_of bs read (drop k ps) ≡ [] = ap (rest_of bs read) (drop_all k ps h) in (
-      sym inv.faults ∙ ap (scan ns (expected e)) r ∙ scan-none (expected e) ns,
+      sym inv.faults ∙ ap (scan ns (expected e)) r ∙ scan_none (expected e) ns,
       sym (append-nil ns) ∙ ap (λ (ms : List (List ℕ)). ns ++ ms) (sym (named_none (expected e))) ∙ ap (λ (ts : List Token). ns ++ named_in (expected e) ts) (sym r) ∙ inv.named,
     )
   where
-    scan-none : (rs : List Role) (ms : List (List ℕ)) → scan ms rs [] ≡ []
-    scan-none [] ms = refl
-    scan-none (r ∷ rs) ms = refl
+    scan_none : (rs : List Role) (ms : List (List ℕ)) → scan ms rs [] ≡ []
+    scan_none [] ms = refl
+    scan_none (r ∷ rs) ms = refl
 
     named_none : (rs : List Role) → named_in rs [] ≡ []
     named_none [] = refl
     named_none (r ∷ rs) = refl
 
 -- the first turn
-pub turn-first : (bs : List ℕ) (read : ℕ) (names ps : List ℕ) → ps ≡ starts_from false 0 bs → Scanned bs read names 0 AtLine ps
-turn-first bs read names ps e = record {
+pub turn_first : (bs : List ℕ) (read : ℕ) (names ps : List ℕ) → ps ≡ starts_from false 0 bs → Scanned bs read names 0 AtLine ps
+turn_first bs read names ps e = record {
   faults = ap (λ (l : List ℕ). scan [] [] (rest_of bs read l)) e;
   named = ap (λ (l : List ℕ). named_in [] (rest_of bs read l)) e;
   inside = λ k h. absurd (omega arith);

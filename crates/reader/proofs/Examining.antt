@@ -9,7 +9,7 @@ use Rattle.grammar.specs.Faults.{fault, word_faults, looked, most_bytes, Reaches
 use Rattle.grammar.specs.Meaning.{fine}
 use Rattle.grammar.proofs.First.{first_stuck, first_long, reach_text, reach_refused, one_reach, starts_inside}
 use Rattle.grammar.proofs.Fine.{fine_from, text_words}
-use Rattle.grammar.proofs.Laws.{not-both}
+use Rattle.grammar.proofs.Laws.{not_both}
 use Rattle.grammar.proofs.Tokens.{text_code, placed}
 use Rattle.reader.specs.declared.types.Reach.{Reach}
 use Rattle.reader.specs.declared.types.Found.{Found}
@@ -56,7 +56,7 @@ module _ (bs : List ℕ) (r : Reach) (reached : Reached r bs) (clean : word_faul
   last_none w h = (subst Text (take_all most_bytes bs h) (reached.text w), h)
 
   pub last_whole : r.whole ≡ true → most_bytes < length bs → FirstFault bs (fault 3 most_bytes)
-  last_whole w h = first_long bs r.at reached.reaches clean h (λ q f _. not-both (take most_bytes bs) q (reached.text w) f)
+  last_whole w h = first_long bs r.at reached.reaches clean h (λ q f _. not_both (take most_bytes bs) q (reached.text w) f)
 
   pub last_long : r.at ≡ most_bytes → most_bytes < length bs → FirstFault bs (fault 3 most_bytes)
   last_long e h =
@@ -121,8 +121,8 @@ words_said r bs read at tokens names e w =
     let P : ℕ → ℕ → Type 0 = λ n m. Words r n (take m bs) tokens names in
     subst₂ P e (sub-zero at) w
 
-pub reach-below : (bs : List ℕ) (r : Reach) → Reached r bs → (r.at ≡ most_bytes → ⊥) → r.at < most_bytes
-reach-below bs r reached n = let i = reached.reaches.inside in go (cases_lt r.at most_bytes)
+pub reach_below : (bs : List ℕ) (r : Reach) → Reached r bs → (r.at ≡ most_bytes → ⊥) → r.at < most_bytes
+reach_below bs r reached n = let i = reached.reaches.inside in go (cases_lt r.at most_bytes)
   where
     go : (r.at < most_bytes) ⊎ (most_bytes ≤ r.at) → r.at < most_bytes
     go (inl h) = h

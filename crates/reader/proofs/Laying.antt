@@ -1,7 +1,7 @@
 -- The pass over the lines that lays them into words.
 --     starts, part_laid, place_laid, ends      before the first line, after a part's, after a place's, and behind the last
---     part_room, part-there, place_room        the tokens that there are for the next line
---     tail-length, tail-inside, front_inside   parts of lists of tokens
+--     part_room, part_there, place_room        the tokens that there are for the next line
+--     tail-length, tail_inside, front_inside   parts of lists of tokens
 use Rattle.std.proofs.Common.{◌≡◌, ℕ, ◌+◌, ◌-◌, ◌*◌, ◌<◌, ◌≤◌, true, false, List, [], ◌∷◌, ◌++◌, length, get_or, take, drop, ℤ, nat_abs, codes, sym, refl, ap, ◌∙◌, subst, append_assoc, append-nil, zero-add, arith, w64, of_z}
 use Rattle.std.proofs.lemmas.List.{take_rest, take_at, take-map, drop_all, drop-drop, drop-map, drop_more, get_or-take, get_or-drop, length-append, length-take, length-drop, length-map, map_push}
 use Rattle.solid.specs.Shapes.{box as box_of}
@@ -13,9 +13,9 @@ use Rattle.grammar.proofs.Once.{once}
 use Rattle.reader.specs.Names.{words_at}
 use Rattle.reader.specs.Layout.{Taken, Laid, part_names, part_steps, spot, asked_words}
 use Rattle.reader.specs.Lines.{PartAt, steps_at, pair_of, PlaceAt, question_at}
-use Rattle.reader.proofs.Numbers.{box-length}
+use Rattle.reader.proofs.Numbers.{box_length}
 use Rattle.reader.proofs.Spots.{names_of, steps_of, spots_of, steps_push, spots_push, pair_front, spot_pair}
-use Rattle.reader.proofs.Next.{part_sound, Sound, place_sound, PartNext, PlaceNext, Next, next, next-part, next_place}
+use Rattle.reader.proofs.Next.{part_sound, Sound, place_sound, PartNext, PlaceNext, Next, next, next_part, next_place}
 
 -- the tokens from one on, as they are lent
 abbrev pub tail : ℕ → List ℕ → List ℕ
@@ -74,9 +74,9 @@ pub tail-length : (at : ℕ) (tokens : List ℕ) → length (tail at tokens) ≡
 tail-length at tokens = ap length (take_rest tokens at) ∙ length-drop at tokens
 
 -- tokens begin inside the text
-pub tail-inside : (text tokens : List ℕ) (at : ℕ) → ((k : ℕ) → k < length tokens → get_or tokens k 0 < length text) →
+pub tail_inside : (text tokens : List ℕ) (at : ℕ) → ((k : ℕ) → k < length tokens → get_or tokens k 0 < length text) →
     (k : ℕ) → k < length (tail at tokens) → get_or (tail at tokens) k 0 < length text
-tail-inside text tokens at f =
+tail_inside text tokens at f =
     subst (λ (xs : List ℕ). (k : ℕ) → k < length xs → get_or xs k 0 < length text) (sym (take_rest tokens at))
     (λ k h. subst (λ (m : ℕ). m < length text) (sym (get_or-drop at tokens k 0)) (f (at + k) (omega (arith, length-drop at tokens))))
 
@@ -123,7 +123,7 @@ module _ {text tokens names spots steps asked : List ℕ} {at parts used count :
         let ps = s.before in
         let p : Part = record { name = n.0; shape = box_of x0 x1 y0 y1 z0 z1 } in
         let ns : names_of (ps ++ p ∷ []) ≡ names_of ps ++ n.0 ∷ [] = map_push (λ (q : Part). q.name) ps p in
-        let l = box-length x0 x1 y0 y1 z0 z1 in
+        let l = box_length x0 x1 y0 y1 z0 z1 in
         let two : 2 * (parts + 1) ≡ 2 * parts + 2 = omega arith in
         record {
           lines = s.lines;
@@ -170,11 +170,11 @@ module _ {text tokens names spots steps asked : List ℕ} {at parts used count :
         ∙ ap (λ (ys : List ℕ). pair_of ns ys n.0) s.spots_are
         ∙ spot_pair 0 s.before n.0
 
-    place-step : (asked' : List ℕ) →
+    place_step : (asked' : List ℕ) →
         take (6 * count + 6) asked'
         ≡ take (6 * count) asked ++ (pair_of (words_at text (take (parts - 0) names)) spots n.0 ++ (of_z w64 x ∷ of_z w64 y ∷ of_z w64 z ∷ nat_abs w ∷ [])) →
         State text tokens names spots steps asked' (at + 6) parts used (count + 1) more
-    place-step asked' e =
+    place_step asked' e =
         let ps = s.before in
         let q = of_z w64 x ∷ of_z w64 y ∷ of_z w64 z ∷ nat_abs w ∷ [] in
         let six : 6 * (count + 1) ≡ 6 * count + 6 = omega arith in
@@ -215,7 +215,7 @@ module _ {text tokens names spots steps asked : List ℕ} {at parts used count :
     -- a part comes next
     module _ (e : true ≡ same (codes "part") (tok_at (drop (get_or (tail at tokens) 0 0) text))) where
       its_part : PartNext g.left
-      its_part = next-part g.left _ first (sym e)
+      its_part = next_part g.left _ first (sym e)
 
       at_part : let p = its_part in State text tokens names spots steps asked at parts used count (part p.name (box p.x0 p.x1 p.y0 p.y1 p.z0 p.z1) ∷ p.more)
       at_part = subst (λ (ls : List Line). State text tokens names spots steps asked at parts used count ls) its_part.is g.state
@@ -223,16 +223,16 @@ module _ {text tokens names spots steps asked : List ℕ} {at parts used count :
       pub part_room : 9 ≤ length (tail at tokens)
       part_room = part_long at_part
 
-      pub part-there : PartAt text (tail at tokens)
-      part-there = part_at at_part
+      pub part_there : PartAt text (tail at tokens)
+      part_there = part_at at_part
 
       pub part_laid : (spots' steps' : List ℕ) → take (2 * parts + 2) spots' ≡ take (2 * parts) spots ++ used ∷ 11 ∷ [] →
           ((p : PartAt text (tail at tokens)) → take (used + 11) steps' ≡ take used steps ++ steps_at p) →
           Going text tokens names spots' steps' asked (at + 9) (parts + 1) (used + 11) count
-      unfolding part_at part-there
+      unfolding part_at part_there
       part_laid spots' steps' es et =
           let l = part_room in
-          going (part_step at_part spots' steps' es (et part-there)) (omega (arith, g.each)) (omega (arith, g.passed)) (omega (arith, tail-length at tokens))
+          going (part_step at_part spots' steps' es (et part_there)) (omega (arith, g.each)) (omega (arith, g.passed)) (omega (arith, tail-length at tokens))
 
     -- a place comes next
     module _ (e : false ≡ same (codes "part") (tok_at (drop (get_or (tail at tokens) 0 0) text))) where
@@ -253,7 +253,7 @@ module _ {text tokens names spots steps asked : List ℕ} {at parts used count :
       unfolding place_at
       place_laid asked' ea =
           let l = place_room in
-          going (place-step at_place asked' (ea (place_at at_place))) g.each (omega (arith, g.passed)) (omega (arith, tail-length at tokens))
+          going (place_step at_place asked' (ea (place_at at_place))) g.each (omega (arith, g.passed)) (omega (arith, tail-length at tokens))
 
   -- no line is left
   pub ends : Going text tokens names spots steps asked at parts used count → length tokens ≤ at → 2 * length tokens ≤ length steps → length tokens ≤ length asked →

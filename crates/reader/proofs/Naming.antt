@@ -18,21 +18,21 @@ named_words (shape ∷ rs) (w ∷ ws) = cond (same w (codes "box")) (named_words
 named_words (measure ∷ rs) (w ∷ ws) = named_words rs ws
 named_words (scale ∷ rs) (w ∷ ws) = named_words rs ws
 
-by-words : (rs : List Role) (ts : List Token) → named_in rs ts ≡ named_words rs (map (λ t. t.word) ts)
-by-words [] [] = refl
-by-words (r ∷ rs) [] = refl
-by-words [] (t ∷ ts) = go (same t.word (codes "part")) (same t.word (codes "place")) (by-words of_part ts) (by-words of_place ts)
+by_words : (rs : List Role) (ts : List Token) → named_in rs ts ≡ named_words rs (map (λ t. t.word) ts)
+by_words [] [] = refl
+by_words (r ∷ rs) [] = refl
+by_words [] (t ∷ ts) = go (same t.word (codes "part")) (same t.word (codes "place")) (by_words of_part ts) (by_words of_place ts)
   where
     go : (a b : Bool) → named_in of_part ts ≡ named_words of_part (map (λ t. t.word) ts) → named_in of_place ts ≡ named_words of_place (map (λ t. t.word) ts) →
         cond a (named_in of_part ts) (cond b (named_in of_place ts) []) ≡ cond a (named_words of_part (map (λ t. t.word) ts)) (cond b (named_words of_place (map (λ t. t.word) ts)) [])
     go true b p q = p
     go false true p q = q
     go false false p q = refl
-by-words (new_name ∷ rs) (t ∷ ts) = ap (λ (l : List (List ℕ)). t.word ∷ l) (by-words rs ts)
-by-words (used_name ∷ rs) (t ∷ ts) = by-words rs ts
-by-words (shape ∷ rs) (t ∷ ts) = ap (λ (l : List (List ℕ)). cond (same t.word (codes "box")) l []) (by-words (of_box ++ rs) ts)
-by-words (measure ∷ rs) (t ∷ ts) = by-words rs ts
-by-words (scale ∷ rs) (t ∷ ts) = by-words rs ts
+by_words (new_name ∷ rs) (t ∷ ts) = ap (λ (l : List (List ℕ)). t.word ∷ l) (by_words rs ts)
+by_words (used_name ∷ rs) (t ∷ ts) = by_words rs ts
+by_words (shape ∷ rs) (t ∷ ts) = ap (λ (l : List (List ℕ)). cond (same t.word (codes "box")) l []) (by_words (of_box ++ rs) ts)
+by_words (measure ∷ rs) (t ∷ ts) = by_words rs ts
+by_words (scale ∷ rs) (t ∷ ts) = by_words rs ts
 
 -- what of a conjunction is at its end
 last_of : (a b : Bool) → (a && b) ≡ true → b ≡ true
@@ -64,4 +64,4 @@ of_lines names (meet n m ∷ ls) h = absurd (both_ways false refl h)
 of_lines names (model n ∷ ls) h = absurd (both_ways false refl h)
 
 pub names_are : (ts : List Token) (ls : List Line) → map (λ t. t.word) ts ≡ code_of ls → fine [] ls ≡ true → named_in [] ts ≡ part_names ls
-names_are ts ls e f = by-words [] ts ∙ ap (named_words []) e ∙ of_lines [] ls f
+names_are ts ls e f = by_words [] ts ∙ ap (named_words []) e ∙ of_lines [] ls f

@@ -1,6 +1,6 @@
 -- Lines that are taken.
 --     part_sound, place_sound           what holds of a part's line, and of a place's
---     next, next-part, next_place       which of the two comes next
+--     next, next_part, next_place       which of the two comes next
 use Rattle.std.proofs.Common.{◌≡◌, ℕ, true, false, not, ◌&&◌, ltb, List, [], ◌∷◌, ◌++◌, length, ℤ, codes, refl, subst, arith}
 use Rattle.std.proofs.lemmas.Bool.{and_parts, and_from, both_ways}
 use Rattle.grammar.specs.Grammar.{Expr, half, box, two, move, one, called, Name, Line, part, place, same_as, meet, model, same, one_of}
@@ -65,9 +65,9 @@ next ns (same_as n m ∷ ls) w ws h e = absurd (both_ways false refl h)
 next ns (meet n m ∷ ls) w ws h e = absurd (both_ways false refl h)
 next ns (model n ∷ ls) w ws h e = absurd (both_ways false refl h)
 
-pub next-part : (ls : List Line) (w : List ℕ) → Next ls w → same (codes "part") w ≡ true → PartNext ls
-next-part ls w (a_part e p) s = p
-next-part ls w (a_place e p) s = absurd (both_ways false refl (subst (λ (v : List ℕ). same (codes "part") v ≡ true) e s))
+pub next_part : (ls : List Line) (w : List ℕ) → Next ls w → same (codes "part") w ≡ true → PartNext ls
+next_part ls w (a_part e p) s = p
+next_part ls w (a_place e p) s = absurd (both_ways false refl (subst (λ (v : List ℕ). same (codes "part") v ≡ true) e s))
 
 pub next_place : (ls : List Line) (w : List ℕ) → Next ls w → same (codes "part") w ≡ false → PlaceNext ls
 next_place ls w (a_part e p) s = absurd (both_ways true (subst (λ (v : List ℕ). same (codes "part") v ≡ false) e s) refl)

@@ -1,7 +1,7 @@
 -- The numbers of lines that are taken.
---     box-numbers, place-numbers      they are in range
+--     box_numbers, place_numbers      they are in range
 --     word_at, number_read            the k-th word, and the number that is read there
---     box-length                      how many steps a box has
+--     box_length                      how many steps a box has
 use Rattle.std.proofs.Common.{◌≡◌, ℕ, ◌<◌, ◌≤◌, true, false, ◌&&◌, List, [], length, get_or, drop, ℤ, pos, negsuc, nat_abs, sym, refl, ◌∙◌, arith, w64, to_z, of_z}
 use lib.Signed.{le_z}
 use Rattle.std.proofs.lemmas.List.{get_or-map}
@@ -28,8 +28,8 @@ pub record Numbers (a b c d e f : ℤ) : Type 0 where
   pub z0 : Short e number_limit
   pub z1 : Short f number_limit
 
-pub box-numbers : (x0 x1 y0 y1 z0 z1 : ℤ) → fine_shape (box x0 x1 y0 y1 z0 z1) ≡ true → Numbers x0 x1 y0 y1 z0 z1
-box-numbers x0 x1 y0 y1 z0 z1 e =
+pub box_numbers : (x0 x1 y0 y1 z0 z1 : ℤ) → fine_shape (box x0 x1 y0 y1 z0 z1) ≡ true → Numbers x0 x1 y0 y1 z0 z1
+box_numbers x0 x1 y0 y1 z0 z1 e =
     let a = and_parts (short x0) _ e in
     let b = and_parts (short x1) _ a.1 in
     let c = and_parts (short y0) _ b.1 in
@@ -58,8 +58,8 @@ scale_is : (w : ℤ) → le_z (pos 1) w ≡ true → le_z w (pos scale_most) ≡
 scale_is (pos n) h k = (leb-true n scale_most k, refl, leb-true 1 n h)
 scale_is (negsuc n) h k = absurd (both_ways false refl h)
 
-pub place-numbers : (x y z w : ℤ) → (short x && (short y && (short z && scales w))) ≡ true → Coordinates x y z w
-place-numbers x y z w e =
+pub place_numbers : (x y z w : ℤ) → (short x && (short y && (short z && scales w))) ≡ true → Coordinates x y z w
+place_numbers x y z w e =
     let a = and_parts (short x) _ e in
     let b = and_parts (short y) _ a.1 in
     let c = and_parts (short z) (scales w) b.1 in
@@ -76,6 +76,6 @@ pub number_read : (text ps : List ℕ) (k : ℕ) (r z : ℤ) → k < length ps �
     ((y : ℤ) → tok_at (drop (get_or ps k 0) text) ≡ signed y → Short y number_limit → r ≡ y) → Is (to_z w64 (of_z w64 r)) z number_limit
 number_read text ps k r z h e s f = is_back (record { same = f z (word_at text ps k (signed z) h e) s; short = s }) tt
 
-pub box-length : (x0 x1 y0 y1 z0 z1 : ℤ) → length (words (box_of x0 x1 y0 y1 z0 z1)) ≡ 11
+pub box_length : (x0 x1 y0 y1 z0 z1 : ℤ) → length (words (box_of x0 x1 y0 y1 z0 z1)) ≡ 11
 unfolding words box_of
-box-length x0 x1 y0 y1 z0 z1 = refl
+box_length x0 x1 y0 y1 z0 z1 = refl

@@ -25,9 +25,9 @@ same_from xs ys false d = cond_both' (same ys xs) refl
 abbrev pub skipped : ℕ → Option ℕ → Option ℕ
 skipped i o = option_map (λ k. i + k) o
 
-pub skipped-none : (o : Option ℕ) → o ≡ skipped 0 o
-skipped-none None = refl
-skipped-none (Some k) = ap (λ (n : ℕ). Some n) (rw zero-add)
+pub skipped_none : (o : Option ℕ) → o ≡ skipped 0 o
+skipped_none None = refl
+skipped_none (Some k) = ap (λ (n : ℕ). Some n) (rw zero-add)
 
 skipped_more : (i : ℕ) (o : Option ℕ) → skipped i (option_map suc o) ≡ skipped (i + 1) o
 skipped_more i None = refl
@@ -37,19 +37,19 @@ module _ (text names word : List ℕ) (i : ℕ) (h : i < length names) where
   here : words_at text (drop i names) ≡ tok_at (drop (get_or names i 0) text) ∷ words_at text (drop (i + 1) names)
   here = ap (words_at text) (drop_more names i 0 h)
 
-  pub rank-here : same word (tok_at (drop (get_or names i 0) text)) ≡ true → skipped i (rank (words_at text (drop i names)) word) ≡ Some i
-  rank-here e =
+  pub rank_here : same word (tok_at (drop (get_or names i 0) text)) ≡ true → skipped i (rank (words_at text (drop i names)) word) ≡ Some i
+  rank_here e =
       ap (λ (ns : List (List ℕ)). skipped i (rank ns word)) here ∙ ap (skipped i) (cond-true (same word (tok_at (drop (get_or names i 0) text))) _ _ e)
       ∙ ap (λ (n : ℕ). Some n) (add-zero i)
 
-  pub rank-later : same word (tok_at (drop (get_or names i 0) text)) ≡ false →
+  pub rank_later : same word (tok_at (drop (get_or names i 0) text)) ≡ false →
       skipped i (rank (words_at text (drop i names)) word) ≡ skipped (i + 1) (rank (words_at text (drop (i + 1) names)) word)
-  rank-later e =
+  rank_later e =
       ap (λ (ns : List (List ℕ)). skipped i (rank ns word)) here ∙ ap (skipped i) (cond-false (same word (tok_at (drop (get_or names i 0) text))) _ _ e)
       ∙ skipped_more i (rank (words_at text (drop (i + 1) names)) word)
 
-pub rank-over : (text names word : List ℕ) (i : ℕ) → length names ≤ i → skipped i (rank (words_at text (drop i names)) word) ≡ None
-rank-over text names word i h = ap (λ (ns : List ℕ). skipped i (rank (words_at text ns) word)) (drop_all i names h)
+pub rank_over : (text names word : List ℕ) (i : ℕ) → length names ≤ i → skipped i (rank (words_at text (drop i names)) word) ≡ None
+rank_over text names word i h = ap (λ (ns : List ℕ). skipped i (rank (words_at text ns) word)) (drop_all i names h)
 
 -- a word is among some exactly if it has a rank there
 pub among_rank : (ns : List (List ℕ)) (w : List ℕ) → one_of ns w ≡ is_some (rank ns w)

@@ -13,8 +13,8 @@ token_goes_on xs i h e = ap tok_at (drop_more xs i 0 h) ∙ cond-true (in_tok (g
 pub token_stops : (xs : List ℕ) (i : ℕ) → i < length xs → in_tok (get_or xs i 0) ≡ false → tok_at (drop i xs) ≡ []
 token_stops xs i h e = ap tok_at (drop_more xs i 0 h) ∙ cond-false (in_tok (get_or xs i 0)) _ _ e
 
-pub token-ends : (xs : List ℕ) (i : ℕ) → length xs ≤ i → tok_at (drop i xs) ≡ []
-token-ends xs i h = ap tok_at (drop_all i xs h)
+pub token_ends : (xs : List ℕ) (i : ℕ) → length xs ≤ i → tok_at (drop i xs) ≡ []
+token_ends xs i h = ap tok_at (drop_all i xs h)
 
 pub token_begins : (xs : List ℕ) (a : ℕ) → between a a xs ++ tok_at (drop a xs) ≡ tok_at (drop a xs)
 token_begins xs a = rw sub_self

@@ -30,8 +30,8 @@ module _ (bs st st' : List ℕ) (i s depth : ℕ) (l : i < length bs) (inv : run
       let len : length (between s i bs) ≤ i - s = simp length-take (omega arith) in
       deeper st st' (between s i bs) depth d (get_or bs i 0) (2 * (i + 1) + 9) sound e (omega arith) (omega arith)
 
-  pub turn-word : s ≤ i → step (stack_of st depth (between s i bs)) (get_or bs i 0) ≡ some (stack_of st' depth (between s i bs ++ get_or bs i 0 ∷ [])) → run start (take (i + 1) bs) ≡ some (stack_of st' depth (between s (i + 1) bs))
-  turn-word h e = run_more bs i _ l inv ∙ e ∙ ap (λ (w : List ℕ). some (stack_of st' depth w)) (sym (between_more s i bs h l))
+  pub turn_word : s ≤ i → step (stack_of st depth (between s i bs)) (get_or bs i 0) ≡ some (stack_of st' depth (between s i bs ++ get_or bs i 0 ∷ [])) → run start (take (i + 1) bs) ≡ some (stack_of st' depth (between s (i + 1) bs))
+  turn_word h e = run_more bs i _ l inv ∙ e ∙ ap (λ (w : List ℕ). some (stack_of st' depth w)) (sym (between_more s i bs h l))
 
   pub turn_stuck : step (stack_of st depth (between s i bs)) (get_or bs i 0) ≡ none → Refused bs i
   turn_stuck e = refused_here bs i _ l inv e

@@ -1,5 +1,6 @@
 -- Words, as the code tells them.
 use Rattle.std.proofs.Common.{◌≡◌, ℕ, zero, suc, ◌+◌, ◌<◌, Bool, true, false, cond, ◌&&◌, eqb, ltb, leb, ◌⊎◌, List, [], ◌∷◌, ◌++◌, length, IsUtf8, IsAscii, sym, refl, ◌∙◌, subst, inl, inr, arith, length-append}
+use Rattle.std.proofs.Math.Bool.{and-true}
 use Rattle.std.proofs.lemmas.Str.{IsUtf8-from_ascii}
 use Rattle.std.proofs.lemmas.Bool.{both_ways, and_parts, and_from, or_cases, or_from, leb-true, leb-false, not_from_false, cases_Bool, le-leb, lt-leb, cond-true, cond-false}
 use Rattle.grammar.specs.declared.types.Kind.{Kind}
@@ -42,16 +43,12 @@ pub good_utf8 : (w : List ℕ) → Good w → IsUtf8 w
 good_utf8 w g = IsUtf8-from_ascii w (ascii_all w (alnum_good w g))
 
 -- a word with one byte more
-and_true : (x : Bool) → (x && true) ≡ x
-and_true true = refl
-and_true false = refl
-
 pub word_first : (w : List ℕ) (b : ℕ) → length w ≡ 0 → is_word (w ++ b ∷ []) ≡ letter b
-word_first [] b h = and_true (letter b)
+word_first [] b h = and-true (letter b)
 word_first (x ∷ w) b h = absurd (omega arith)
 
 all_push : (w : List ℕ) (b : ℕ) → all alnum w ≡ true → all alnum (w ++ b ∷ []) ≡ alnum b
-all_push [] b h = and_true (alnum b)
+all_push [] b h = and-true (alnum b)
 all_push (x ∷ w) b h =
     let p = and_parts (alnum x) (all alnum w) h in
     let q = all_push w b p.1 in

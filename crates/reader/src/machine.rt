@@ -172,7 +172,7 @@ pub(crate) fn in_number(stack: &mut [u64], depth: usize, want: Want, b: u8) -> W
             _ => Went::Stuck,
         },
         Want::Lit(_) | Want::Name(_) | Want::Shape(_) | Want::AfterP | Want::AfterM =>
-            unreachable(),
+            unreachable!(),
     }
 }
 

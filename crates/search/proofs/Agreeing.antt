@@ -7,9 +7,9 @@
 --     agree_holds, agree_ends                        in a shape, or where it ends
 --     off_among, but_among                           off planes among others
 --     off_clear, clear_off, but_clear, clear_but     off a shape's planes
-use Rattle.std.proofs.Common.{◌≡◌, Bool, true, cond, not, ◌&&◌, ◌||◌, List, [], ◌∷◌, ◌++◌, ℤ, pos, neg_ℤ, sym, refl, ap, ◌∙◌, subst, ap₂, inl, inr, arith}
+use Rattle.std.proofs.Common.{◌≡◌, Bool, true, cond, not, ◌&&◌, ◌||◌, List, [], ◌∷◌, ◌++◌, pos, sym, refl, ap, ◌∙◌, subst, ap₂, inl, inr}
+use lib.IntN.{neg_ℤ-neg_ℤ}
 use lib.Signed.{lt_z}
-use Rattle.std.proofs.lemmas.Int.{ints}
 use Rattle.arith.proofs.Order.{opposite}
 use Rattle.plane.specs.declared.types.Plane.{Plane}
 use Rattle.plane.specs.declared.types.Place.{Place}
@@ -21,16 +21,13 @@ use Rattle.solid.specs.Shapes.{Shape, holds, planes, Has, Clear, ClearBut, just_
 use Rattle.solid.specs.Models.{all_below}
 use Rattle.solid.specs.Examples.{on_some}
 use Rattle.solid.proofs.Members.{has_here, has_there, has_left, has_right, has_part}
-use Rattle.solid.proofs.Values.{by-same}
+use Rattle.solid.proofs.Values.{by_same}
 use Rattle.search.specs.Search.{Agree, Among, Off, OffBut}
 
 -- ---- a plane and its twin
-neg_twice : (z : ℤ) → neg_ℤ (neg_ℤ z) ≡ z
-neg_twice z = omega (arith, ints)
-
 pub turned_twice : (p : Plane) → turned (turned p) ≡ p
 unfolding turned
-turned_twice p = made p (neg_twice p.a) (neg_twice p.b) (neg_twice p.c) (neg_twice p.d)
+turned_twice p = made p (neg_ℤ-neg_ℤ p.a) (neg_ℤ-neg_ℤ p.b) (neg_ℤ-neg_ℤ p.c) (neg_ℤ-neg_ℤ p.d)
 
 -- the sides of the twin say those of the plane
 pub twin_side : (p : Plane) (q r : Place) → side (turned p) q ≡ side (turned p) r → side p q ≡ side p r
@@ -70,22 +67,22 @@ module _ (ps : List Plane) (q r : Place) (a : Agree ps q r) where
   pub agree_among : (rs : List Plane) → Among ps rs → Agree rs q r
   agree_among rs m p h = elim (m p h) [ inl k ↦ a p k | inr k ↦ twin_side p q r (a (turned p) k) ]
 
-all_below-same : (q r : Place) (ps : List Plane) → Agree ps q r → all_below ps q ≡ all_below ps r
+all_below_same : (q r : Place) (ps : List Plane) → Agree ps q r → all_below ps q ≡ all_below ps r
 unfolding all_below
-all_below-same q r [] a = refl
-all_below-same q r (p ∷ ps) a = ap₂ ◌&&◌ (agree_below (p ∷ ps) q r a p (has_here p ps)) (all_below-same q r ps (λ t h. a t (has_there p t ps h)))
+all_below_same q r [] a = refl
+all_below_same q r (p ∷ ps) a = ap₂ ◌&&◌ (agree_below (p ∷ ps) q r a p (has_here p ps)) (all_below_same q r ps (λ t h. a t (has_there p t ps h)))
 
-on_some-same : (q r : Place) (ps : List Plane) → Agree ps q r → on_some ps q ≡ on_some ps r
+on_some_same : (q r : Place) (ps : List Plane) → Agree ps q r → on_some ps q ≡ on_some ps r
 unfolding on_some
-on_some-same q r [] a = refl
-on_some-same q r (p ∷ ps) a = ap₂ ◌||◌ (agree_on (p ∷ ps) q r a p (has_here p ps)) (on_some-same q r ps (λ t h. a t (has_there p t ps h)))
+on_some_same q r [] a = refl
+on_some_same q r (p ∷ ps) a = ap₂ ◌||◌ (agree_on (p ∷ ps) q r a p (has_here p ps)) (on_some_same q r ps (λ t h. a t (has_there p t ps h)))
 
 module _ (ps : List Plane) (q r : Place) (a : Agree ps q r) where
   pub agree_all_below : (rs : List Plane) → Among ps rs → all_below rs q ≡ all_below rs r
-  agree_all_below rs m = all_below-same q r rs (agree_among ps q r a rs m)
+  agree_all_below rs m = all_below_same q r rs (agree_among ps q r a rs m)
 
   pub agree_on_some : (rs : List Plane) → Among ps rs → on_some rs q ≡ on_some rs r
-  agree_on_some rs m = on_some-same q r rs (agree_among ps q r a rs m)
+  agree_on_some rs m = on_some_same q r rs (agree_among ps q r a rs m)
 
   module _ (s : Shape) (m : Among ps (planes s)) where
     ours : Agree (planes s) q r
@@ -93,7 +90,7 @@ module _ (ps : List Plane) (q r : Place) (a : Agree ps q r) where
 
     pub agree_holds : holds s q ≡ holds s r
     unfolding holds
-    agree_holds = by-same (λ p. below p q) (λ p. below p r) s (agree_below (planes s) q r ours)
+    agree_holds = by_same (λ p. below p q) (λ p. below p r) s (agree_below (planes s) q r ours)
 
     -- just below and just above a base, planes through the place are met by their direction
     met : (p : Plane) → Has (planes s) p → (t : Bool) → cond (on p q) t (below p q) ≡ cond (on p r) t (below p r)
@@ -103,8 +100,8 @@ module _ (ps : List Plane) (q r : Place) (a : Agree ps q r) where
     unfolding ends just_below just_above
     agree_ends b =
         ap₂ (λ x y. x && not y)
-        (by-same (just_below b q) (just_below b r) s (λ p h. met p h (lt_z (pos 0) (along b p))))
-        (by-same (just_above b q) (just_above b r) s (λ p h. met p h (lt_z (along b p) (pos 0))))
+        (by_same (just_below b q) (just_below b r) s (λ p h. met p h (lt_z (pos 0) (along b p))))
+        (by_same (just_above b q) (just_above b r) s (λ p h. met p h (lt_z (along b p) (pos 0))))
 
 -- ---- off planes among others
 pub off_among : (ps rs : List Plane) (q : Place) → Among ps rs → Off ps q → Off rs q

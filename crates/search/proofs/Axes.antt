@@ -3,7 +3,7 @@
 --     slope_size, number_short, base_short           how large slopes and numbers are
 --     turned_level                                   a level plane turned round is level
 --     axis_of                                        each level plane has an axis
---     rise, height-along                             how far a place is past a number, and the plane's height by that
+--     rise, height_along                             how far a place is past a number, and the plane's height by that
 --     on-rise, rise-on                               on the plane: at its number
 --     along_only, way, ways, same_way-along          level planes of one axis lie the same way, or turned
 use Rattle.std.proofs.Common.{◌≡◌, ℕ, zero, suc, ◌+◌, ◌≤◌, true, ◌&&◌, ◌⊎◌, ℤ, pos, negsuc, ◌-ℤ◌, ◌*ℤ◌, neg_ℤ, nat_abs, ◌<ℤ◌, Some, None, Option, sym, refl, ap, ◌∙◌, subst, ap₂, inl, inr, arith}
@@ -22,6 +22,7 @@ use Rattle.plane.specs.Limits.{FitsPlane, offset_limit}
 use Rattle.plane.specs.Planes.{same_z, height, on, turned, along, same_way}
 use Rattle.plane.proofs.Formulas.{Height, Dot}
 use Rattle.plane.proofs.Heights.{on-height, height-on}
+use Rattle.plane.proofs.Tests.{lt_yes, lt_says, same_yes}
 use Rattle.search.specs.declared.levels.Axis.{Axis}
 use Rattle.search.specs.declared.levels.Axis.TheVariants.{X, Y, Z}
 use Rattle.search.specs.Levels.{Level, BaseLevel, slope_along, coordinate, number_by, number_along, base_along}
@@ -41,10 +42,10 @@ by_slope s d v e z =
 by_number : (s d v : ℤ) → number_by s d ≡ Some v → v ≡ s *ℤ d
 by_number s d v e = let k = by_some s d (by_slope s d v e) in cc
 
-by-none : (s d : ℤ) → number_by s d ≡ None → s ≡ pos 0
-by-none (pos zero) d e = refl
-by-none (pos (suc k)) d e = let o : ◌≡◌ {A = ℕ} 0 1 = cc in absurd (omega arith)
-by-none (negsuc k) d e = let o : ◌≡◌ {A = ℕ} 0 1 = cc in absurd (omega arith)
+by_none : (s d : ℤ) → number_by s d ≡ None → s ≡ pos 0
+by_none (pos zero) d e = refl
+by_none (pos (suc k)) d e = let o : ◌≡◌ {A = ℕ} 0 1 = cc in absurd (omega arith)
+by_none (negsuc k) d e = let o : ◌≡◌ {A = ℕ} 0 1 = cc in absurd (omega arith)
 
 module _ (x : Axis) (p : Plane) where
   pub number_some : (slope_along x p ≡ pos 0 → ⊥) → number_along x p ≡ Some (slope_along x p *ℤ p.d)
@@ -57,7 +58,7 @@ module _ (x : Axis) (p : Plane) where
   number_is v e = by_number (slope_along x p) p.d v e
 
   pub number_none : number_along x p ≡ None → slope_along x p ≡ pos 0
-  number_none e = by-none (slope_along x p) p.d e
+  number_none e = by_none (slope_along x p) p.d e
 
 -- ---- sizes
 pub slope_size : (x : Axis) (p : Plane) → Level p → nat_abs (slope_along x p) ≤ 1
@@ -122,29 +123,29 @@ unit_square (negsuc (suc k)) h n = absurd (omega arith)
 abbrev pub rise : Axis → Place → ℤ → ℤ
 rise x q v = coordinate x q -ℤ (v *ℤ pos q.w)
 
-by-rise : (x : Axis) (p : Plane) (q : Place) → Only x p → slope_along x p *ℤ slope_along x p ≡ pos 1 → height p q ≡ slope_along x p *ℤ rise x q (slope_along x p *ℤ p.d)
+by_rise : (x : Axis) (p : Plane) (q : Place) → Only x p → slope_along x p *ℤ slope_along x p ≡ pos 1 → height p q ≡ slope_along x p *ℤ rise x q (slope_along x p *ℤ p.d)
 unfolding height
-by-rise X p q o u =
+by_rise X p q o u =
     solve 8 (λ a b c d x y z w. y · b := con (pos 0) ⇒ z · c := con (pos 0) ⇒ d :* w · a :* a := con (pos 1) ⇒ Height a b c d x y z w := a :* (x :- (a :* d) :* w)) refl
     p.a p.b p.c p.d q.x q.y q.z (pos q.w) o.0 o.1 u
-by-rise Y p q o u =
+by_rise Y p q o u =
     solve 8 (λ a b c d x y z w. x · a := con (pos 0) ⇒ z · c := con (pos 0) ⇒ d :* w · b :* b := con (pos 1) ⇒ Height a b c d x y z w := b :* (y :- (b :* d) :* w)) refl
     p.a p.b p.c p.d q.x q.y q.z (pos q.w) o.0 o.1 u
-by-rise Z p q o u =
+by_rise Z p q o u =
     solve 8 (λ a b c d x y z w. x · a := con (pos 0) ⇒ y · b := con (pos 0) ⇒ d :* w · c :* c := con (pos 1) ⇒ Height a b c d x y z w := c :* (z :- (c :* d) :* w)) refl
     p.a p.b p.c p.d q.x q.y q.z (pos q.w) o.0 o.1 u
 
 module _ (x : Axis) (p : Plane) (v : ℤ) (l : Level p) (e : number_along x p ≡ Some v) where
-  pub height-along : (q : Place) → height p q ≡ slope_along x p *ℤ rise x q v
-  height-along q =
-      by-rise x p q (number_only x p v l e) (unit_square (slope_along x p) (slope_size x p l) (number_slope x p v e))
+  pub height_along : (q : Place) → height p q ≡ slope_along x p *ℤ rise x q v
+  height_along q =
+      by_rise x p q (number_only x p v l e) (unit_square (slope_along x p) (slope_size x p l) (number_slope x p v e))
       ∙ ap (λ (u : ℤ). slope_along x p *ℤ rise x q u) (sym (number_is x p v e))
 
   pub on-rise : (q : Place) → on p q ≡ true → rise x q v ≡ pos 0
-  on-rise q h = cancel_zero (slope_along x p) (rise x q v) (number_slope x p v e) (sym (height-along q) ∙ on-height p q h)
+  on-rise q h = cancel_zero (slope_along x p) (rise x q v) (number_slope x p v e) (sym (height_along q) ∙ on-height p q h)
 
   pub rise-on : (q : Place) → rise x q v ≡ pos 0 → on p q ≡ true
-  rise-on q h = height-on p q (height-along q ∙ ap (λ (z : ℤ). slope_along x p *ℤ z) h ∙ *ℤ-zero (slope_along x p))
+  rise-on q h = height-on p q (height_along q ∙ ap (λ (z : ℤ). slope_along x p *ℤ z) h ∙ *ℤ-zero (slope_along x p))
 
 -- ---- level planes of one axis lie the same way, or one of them turned
 pub along_only : (x : Axis) (p r : Plane) → Only x r → along p r ≡ slope_along x p *ℤ slope_along x r
@@ -156,37 +157,27 @@ along_only Y p r o =
 along_only Z p r o =
     solve 6 (λ a b c i j k. a · i := con (pos 0) ⇒ b · j := con (pos 0) ⇒ Dot a b c i j k := c :* k) refl p.a p.b p.c r.a r.b r.c o.0 o.1
 
-less_true : (a b : ℤ) → a <ℤ b → lt_z a b ≡ true
-less_true a b h = grind (arith, ints)
-
-true_less : (a b : ℤ) → lt_z a b ≡ true → a <ℤ b
-true_less a b e = grind (arith, ints)
-
-same_true : (a b : ℤ) → a ≡ b → same_z a b ≡ true
-unfolding same_z
-same_true a b e = grind (arith, ints)
-
 -- two slopes that are 0 in both planes, or in neither that counts
-first-none : (a b i j : ℤ) → a ≡ pos 0 → i ≡ pos 0 → same_z (a *ℤ j) (b *ℤ i) ≡ true
-first-none a b i j h k = same_true _ _ (solve 4 (λ a b i j. j · a := con (pos 0) ⇒ neg_e b · i := con (pos 0) ⇒ a :* j := b :* i) refl a b i j h k)
+first_none : (a b i j : ℤ) → a ≡ pos 0 → i ≡ pos 0 → same_z (a *ℤ j) (b *ℤ i) ≡ true
+first_none a b i j h k = same_yes _ _ (solve 4 (λ a b i j. j · a := con (pos 0) ⇒ neg_e b · i := con (pos 0) ⇒ a :* j := b :* i) refl a b i j h k)
 
 second_none : (a b i j : ℤ) → b ≡ pos 0 → j ≡ pos 0 → same_z (a *ℤ j) (b *ℤ i) ≡ true
-second_none a b i j h k = same_true _ _ (solve 4 (λ a b i j. neg_e i · b := con (pos 0) ⇒ a · j := con (pos 0) ⇒ a :* j := b :* i) refl a b i j h k)
+second_none a b i j h k = same_yes _ _ (solve 4 (λ a b i j. neg_e i · b := con (pos 0) ⇒ a · j := con (pos 0) ⇒ a :* j := b :* i) refl a b i j h k)
 
 pub way : (x : Axis) (p r : Plane) → Only x p → Only x r → pos 0 <ℤ (slope_along x p *ℤ slope_along x r) → same_way p r ≡ true
 unfolding same_way
 way x p r m o h =
-    let k : lt_z (pos 0) (along p r) ≡ true = less_true (pos 0) (along p r) (subst (λ (z : ℤ). pos 0 <ℤ z) (sym (along_only x p r o)) h) in
+    let k : lt_z (pos 0) (along p r) ≡ true = lt_yes (pos 0) (along p r) (subst (λ (z : ℤ). pos 0 <ℤ z) (sym (along_only x p r o)) h) in
     and_from _ _ (lines x m o) k
   where
     lines : (x : Axis) → Only x p → Only x r → (same_z (p.a *ℤ r.b) (p.b *ℤ r.a) && (same_z (p.a *ℤ r.c) (p.c *ℤ r.a) && same_z (p.b *ℤ r.c) (p.c *ℤ r.b))) ≡ true
-    lines X m o = and_from _ _ (second_none _ _ _ _ m.0 o.0) (and_from _ _ (second_none _ _ _ _ m.1 o.1) (first-none _ _ _ _ m.0 o.0))
-    lines Y m o = and_from _ _ (first-none _ _ _ _ m.0 o.0) (and_from _ _ (first-none _ _ _ _ m.0 o.0) (second_none _ _ _ _ m.1 o.1))
-    lines Z m o = and_from _ _ (first-none _ _ _ _ m.0 o.0) (and_from _ _ (first-none _ _ _ _ m.0 o.0) (first-none _ _ _ _ m.1 o.1))
+    lines X m o = and_from _ _ (second_none _ _ _ _ m.0 o.0) (and_from _ _ (second_none _ _ _ _ m.1 o.1) (first_none _ _ _ _ m.0 o.0))
+    lines Y m o = and_from _ _ (first_none _ _ _ _ m.0 o.0) (and_from _ _ (first_none _ _ _ _ m.0 o.0) (second_none _ _ _ _ m.1 o.1))
+    lines Z m o = and_from _ _ (first_none _ _ _ _ m.0 o.0) (and_from _ _ (first_none _ _ _ _ m.0 o.0) (first_none _ _ _ _ m.1 o.1))
 
 pub same_way-along : (p r : Plane) → same_way p r ≡ true → pos 0 <ℤ along p r
 unfolding same_way
-same_way-along p r e = true_less (pos 0) (along p r) (and_parts _ _ e).1
+same_way-along p r e = lt_says (pos 0) (along p r) (and_parts _ _ e).1
 
 slope_turned : (x : Axis) (p : Plane) → slope_along x (turned p) ≡ neg_ℤ (slope_along x p)
 unfolding turned

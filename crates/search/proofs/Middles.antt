@@ -1,7 +1,7 @@
 -- The doubled coordinates between the level planes of an axis, as they are written and as they are used.
---     numbers-none, one_more, none_more              the words that a loop writes
+--     numbers_none, one_more, none_more              the words that a loop writes
 --     middle_from                                    what the middles come from
---     spots-short                                    how large they are
+--     spots_short                                    how large they are
 --     odd                                            none is at a number
 --     choose                                         one is on the same side of each number as a place that is at none
 use Rattle.std.proofs.Common.{◌≡◌, ℕ, ◌+◌, ◌<◌, ◌≤◌, ◌⊎◌, List, [], ◌∷◌, ◌++◌, length, get_or, take, set, ℤ, pos, ◌+ℤ◌, ◌-ℤ◌, ◌*ℤ◌, nat_abs, ◌≤ℤ◌, ◌<ℤ◌, Some, None, Option, sym, refl, ap, ◌∙◌, subst, ap₂, inl, inr, append_assoc, arith, lit≤, w64, to_z}
@@ -9,7 +9,7 @@ use lib.Signed.{<ℤ_irrefl}
 use Rattle.std.proofs.lemmas.List.{take_more, take_more_set, map-append, append-nil}
 use Rattle.std.proofs.lemmas.Int.{ints, by_lt_z}
 use Rattle.arith.specs.Bounds.{Short}
-use Rattle.arith.proofs.Order.{tri, below, same, above, minus, plus, sgn, says-sgn}
+use Rattle.arith.proofs.Order.{tri, below, same, above, minus, plus, sgn, says_sgn}
 use Rattle.arith.proofs.Poly.{con, ◌:-◌, ◌:*◌}
 use Rattle.arith.proofs.Sized.{is_self, is_pos, is_mul, is_add}
 use Rattle.arith.proofs.Solve.{solve, ◌:<◌, ◌:≤◌, ◌⊙◌⇒◌, ◌⟹◌}
@@ -36,8 +36,8 @@ middles_more x ps i d h =
 numbers_more : (ws : List ℕ) (n w : ℕ) → n < length ws → numbers (take (n + 1) (set ws n w)) ≡ numbers (take n ws) ++ (to_z w64 w ∷ [])
 numbers_more ws n w h = ap numbers (take_more_set ws n w h) ∙ map-append (to_z w64) (take n ws) (w ∷ [])
 
-pub numbers-none : (ws : List ℕ) (w : ℕ) → 0 < length ws → numbers (take 1 (set ws 0 w)) ≡ to_z w64 w ∷ []
-numbers-none ws w h = numbers_more ws 0 w h
+pub numbers_none : (ws : List ℕ) (w : ℕ) → 0 < length ws → numbers (take 1 (set ws 0 w)) ≡ to_z w64 w ∷ []
+numbers_none ws w h = numbers_more ws 0 w h
 
 module _ (x : Axis) (ps : List Plane) (i : ℕ) (d : Plane) (h : i < length ps) (ws : List ℕ) (n : ℕ) (k : n < length ws) (e : numbers (take n ws) ≡ middles x (take i ps)) where
   pub one_more : (v : ℤ) (w : ℕ) → number_along x (get_or ps i d) ≡ Some v → to_z w64 w ≡ pos 2 *ℤ v +ℤ pos 1 → numbers (take (n + 1) (set ws n w)) ≡ middles x (take (i + 1) ps)
@@ -77,18 +77,18 @@ module _ (x : Axis) (m : ℤ) where
 
 -- ---- sizes
 module _ (x : Axis) (ps : List Plane) (a : AllLevel ps) where
-  middles-short : AllShort (middles x ps)
-  middles-short m h = elim (middle_from x m ps h) [
+  middles_short : AllShort (middles x ps)
+  middles_short m h = elim (middle_from x m ps h) [
     | inl e ↦ subst (λ (z : ℤ). Short z spot_limit) (sym e) (record { size = lit≤ tt })
     | inr b ↦ subst (λ (z : ℤ). Short z spot_limit) (sym b.is)
         (is_add (is_mul (is_pos {k = 2} {n = 2} (lit≤ tt)) (is_self (number_short x b.plane b.number (a b.plane b.has) b.along))) (is_pos {k = 1} {n = 1} (lit≤ tt))).short
   ]
 
-  pub spots-short : (o : Option Plane) → BaseLevel o → AllShort (spots o ps x)
-  spots-short o b = go (base_along x o) refl
+  pub spots_short : (o : Option Plane) → BaseLevel o → AllShort (spots o ps x)
+  spots_short o b = go (base_along x o) refl
     where
       go : (n : Option ℤ) → base_along x o ≡ n → AllShort (spots_by n (middles x ps))
-      go None e m h = middles-short m h
+      go None e m h = middles_short m h
       go (Some v) e m h = elim (has_either (pos 2 *ℤ v) m [] h) [
         | inl i ↦
             let s : Short v offset_limit = base_short x o v b e in
@@ -149,8 +149,8 @@ module _ (x : Axis) (q : Place) where
 
   module _ (w : 0 < q.w) where
     -- what the last number stands below is above it
-    under-below : (u m : ℤ) → Short u offset_limit → (m ≡ lowest) ⊎ ((t : ℤ) × (m ≡ pos 2 *ℤ t +ℤ pos 1) × (pos 0 <ℤ rise x q t)) → rise x q u <ℤ pos 0 → m <ℤ (pos 2 *ℤ u)
-    under-below u m s o k = elim o [
+    under_below : (u m : ℤ) → Short u offset_limit → (m ≡ lowest) ⊎ ((t : ℤ) × (m ≡ pos 2 *ℤ t +ℤ pos 1) × (pos 0 <ℤ rise x q t)) → rise x q u <ℤ pos 0 → m <ℤ (pos 2 *ℤ u)
+    under_below u m s o k = elim o [
       | inl e ↦ let h : nat_abs u ≤ offset_limit = s.size in omega (arith, ints)
       | inr t ↦
           let h : pos 0 ≤ℤ pos q.w = omega (arith, ints) in
@@ -202,7 +202,7 @@ module _ (x : Axis) (q : Place) where
         ((u : ℤ) → o ≡ Some u → Short u offset_limit × (rise x q u ≡ pos 0 → ⊥)) → (n : ℤ) × Best x (p ∷ ps) q n
     next p ps m b None e f = (m, skipped p ps m b e)
     next p ps m b (Some u) e f = elim (tri (rise x q u) (pos 0)) [
-      | below k ↦ (m, kept p ps m b u e (λ i. under-below u m (f u refl).0 b.under k, λ i. absurd (never (rise x q u) k i)))
+      | below k ↦ (m, kept p ps m b u e (λ i. under_below u m (f u refl).0 b.under k, λ i. absurd (never (rise x q u) k i)))
       | same k ↦ absurd ((f u refl).1 k)
       | above k ↦ by_lt_z m (pos 2 *ℤ u +ℤ pos 1)
           (λ l. (pos 2 *ℤ u +ℤ pos 1, later p ps m b u e k l))
@@ -218,9 +218,9 @@ module _ (x : Axis) (q : Place) where
     -- the signs of both
     signs : (m v r : ℤ) → Splits m v r → (r ≡ pos 0 → ⊥) → sgn (m -ℤ (v *ℤ pos 2)) ≡ sgn r
     signs m v r s n = elim (tri r (pos 0)) [
-      | below k ↦ let l = s.0 k in says-sgn minus (m -ℤ (v *ℤ pos 2)) (omega (arith, ints)) ∙ sym (says-sgn minus r k)
+      | below k ↦ let l = s.0 k in says_sgn minus (m -ℤ (v *ℤ pos 2)) (omega (arith, ints)) ∙ sym (says_sgn minus r k)
       | same k ↦ absurd (n k)
-      | above k ↦ let l = s.1 k in says-sgn plus (m -ℤ (v *ℤ pos 2)) (omega (arith, ints)) ∙ sym (says-sgn plus r k)
+      | above k ↦ let l = s.1 k in says_sgn plus (m -ℤ (v *ℤ pos 2)) (omega (arith, ints)) ∙ sym (says_sgn plus r k)
     ]
 
     pub choose : (ps : List Plane) → AllLevel ps → Between x ps q → (m : ℤ) × Has (middles x ps) m × Chosen x ps q m

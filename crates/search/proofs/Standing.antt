@@ -2,25 +2,25 @@
 --     off_fair, fair_off, but_fair, fair_but         Off and OffBut, as said of each axis
 --     stands_fair, stand_in                          a place that stands is such a place, and each such place has one that stands for it
 --     found_at                                       what is found among those that stand, said of all
-use Rattle.std.proofs.Common.{◌≡◌, ℕ, ◌<◌, Bool, true, false, ◌⊎◌, List, [], ℤ, pos, ◌-ℤ◌, ◌*ℤ◌, ◌<ℤ◌, Some, None, Option, sym, refl, ap, ◌∙◌, subst, inl, inr, arith}
+use Rattle.std.proofs.Common.{◌≡◌, ℕ, ◌<◌, Bool, true, ◌⊎◌, List, [], ℤ, pos, ◌-ℤ◌, ◌*ℤ◌, ◌<ℤ◌, Some, None, Option, sym, refl, ap, ◌∙◌, subst, inl, inr, arith}
 use lib.IntN.{zero-*ℤ}
 use lib.Signed.{<ℤ_irrefl}
 use Rattle.std.proofs.lemmas.Int.{ints}
-use Rattle.std.proofs.lemmas.Bool.{cases_Bool}
-use Rattle.arith.proofs.Order.{times, sgn, sgn_mul, sgn-scaled}
+use Rattle.std.proofs.lemmas.Bool.{cases_Bool, both_ways}
+use Rattle.arith.proofs.Order.{times, sgn, sgn_mul, sgn_scaled}
 use Rattle.arith.proofs.Poly.{con, ◌:-◌, ◌:*◌}
 use Rattle.arith.proofs.Solve.{solve, ◌:=◌, ◌⟹◌}
 use Rattle.plane.specs.declared.types.Plane.{Plane}
 use Rattle.plane.specs.declared.types.Place.{Place}
 use Rattle.plane.specs.Planes.{on, along, turned, same_way}
-use Rattle.plane.proofs.Heights.{same-side}
+use Rattle.plane.proofs.Heights.{same_side}
 use Rattle.solid.specs.Shapes.{Has}
 use Rattle.solid.proofs.Members.{has_none, has_here, has_either}
 use Rattle.search.specs.declared.levels.Axis.{Axis}
 use Rattle.search.specs.declared.levels.Axis.TheVariants.{X, Y, Z}
 use Rattle.search.specs.Search.{Agree, Off, OffBut, OffAt, BySides, BySidesOn, BySidesAt, Found}
 use Rattle.search.specs.Levels.{Level, BaseLevel, AllLevel, slope_along, coordinate, number_along, base_along, middles, spots_by, spots, halved, Standing}
-use Rattle.search.proofs.Axes.{axis_of, rise, height-along, on-rise, rise-on, number_none, Only, number_only, only_turned, along_only, ways, same_way-along}
+use Rattle.search.proofs.Axes.{axis_of, rise, height_along, on-rise, rise-on, number_none, Only, number_only, only_turned, along_only, ways, same_way-along}
 use Rattle.search.proofs.Middles.{Between, Chosen, odd, choose}
 
 -- at the base's number, or at none of the planes' if the base is of another axis
@@ -34,10 +34,7 @@ Fair o ps q = (x : Axis) → FairBy (base_along x o) x ps q
 -- ---- off the planes
 module _ (ps : List Plane) (a : AllLevel ps) (q : Place) where
   off_fair : Off ps q → Fair None ps q
-  off_fair o x p v h e r = both_ways (o.off p h) (rise-on x p v (a p h).1 e q r)
-    where
-      both_ways : {t : Bool} → t ≡ false → t ≡ true → ⊥
-      both_ways f t = let z : false ≡ true = sym f ∙ t in let o : ◌≡◌ {A = ℕ} 0 1 = cc in omega arith
+  off_fair o x p v h e r = both_ways (on p q) (o.off p h) (rise-on x p v (a p h).1 e q r)
 
   fair_off : 0 < q.w → Fair None ps q → Off ps q
   fair_off w f = record {
@@ -83,13 +80,13 @@ module _ (ps : List Plane) (a : AllLevel ps) (b : Plane) (l : Level b) (q : Plac
       others x p v h e r (Some t) i = ways x b p t v l (a p h).1 i e
 
 -- ---- places that stand
-listed-along : (o : Option Plane) (ps : List Plane) (q : Place) → Standing o ps q → (x : Axis) → Has (spots o ps x) (coordinate x q)
-listed-along o ps q s X = s.x
-listed-along o ps q s Y = s.y
-listed-along o ps q s Z = s.z
+listed_along : (o : Option Plane) (ps : List Plane) (q : Place) → Standing o ps q → (x : Axis) → Has (spots o ps x) (coordinate x q)
+listed_along o ps q s X = s.x
+listed_along o ps q s Y = s.y
+listed_along o ps q s Z = s.z
 
 pub stands_fair : (o : Option Plane) (ps : List Plane) (q : Place) → Standing o ps q → Fair o ps q
-stands_fair o ps q s x = go (base_along x o) (listed-along o ps q s x)
+stands_fair o ps q s x = go (base_along x o) (listed_along o ps q s x)
   where
     doubled : (v : ℤ) → rise x q v ≡ coordinate x q -ℤ (v *ℤ pos 2)
     doubled v = ap (λ (n : ℕ). coordinate x q -ℤ (v *ℤ pos n)) s.w
@@ -123,7 +120,7 @@ module _ (o : Option Plane) (ps : List Plane) (a : AllLevel ps) (q : Place) (w :
             pos 2 *ℤ t,
             has_here (pos 2 *ℤ t) [],
             λ p v h e.
-                ap sgn (twice t v) ∙ sgn-scaled (pos 2) (t -ℤ v) l ∙ sym (sgn-scaled (pos q.w) (t -ℤ v) k) ∙ sym (ap sgn (level_with (coordinate x q) (pos q.w) t v g)),
+                ap sgn (twice t v) ∙ sgn_scaled (pos 2) (t -ℤ v) l ∙ sym (sgn_scaled (pos q.w) (t -ℤ v) k) ∙ sym (ap sgn (level_with (coordinate x q) (pos q.w) t v g)),
           )
 
   stand : Place
@@ -152,8 +149,8 @@ module _ (o : Option Plane) (ps : List Plane) (a : AllLevel ps) (q : Place) (w :
       let v = r.1 in
       let s = slope_along x p in
       let i : sgn (rise x q v) ≡ sgn (rise x stand v) = sym ((pick x).2 p v h r.2) ∙ sym (ap sgn (stand_rise x v)) in
-      (same-side p q p stand
-      (ap sgn (height-along x p v (a p h).1 r.2 q) ∙ sgn_mul s (rise x q v) ∙ ap (times (sgn s)) i ∙ sym (sgn_mul s (rise x stand v)) ∙ sym (ap sgn (height-along x p v (a p h).1 r.2 stand)))).in_side
+      (same_side p q p stand
+      (ap sgn (height_along x p v (a p h).1 r.2 q) ∙ sgn_mul s (rise x q v) ∙ ap (times (sgn s)) i ∙ sym (sgn_mul s (rise x stand v)) ∙ sym (ap sgn (height_along x p v (a p h).1 r.2 stand)))).in_side
 
   pub stand_in : (r : Place) × Standing o ps r × Agree ps q r
   stand_in = (stand, stands, agree)

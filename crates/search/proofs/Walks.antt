@@ -13,11 +13,11 @@ spot xs ys zs i j k = halved (to_z w64 (get_or xs i 0)) (to_z w64 (get_or ys j 0
 has_number : (ws : List ℕ) (i : ℕ) → i < length ws → Has (numbers ws) (to_z w64 (get_or ws i 0))
 has_number ws i h = has_map (to_z w64) (get_or ws i 0) ws (has_read ws i 0 h)
 
-pub short-at : (ws : List ℕ) (i : ℕ) → AllShort (numbers ws) → i < length ws → Short (to_z w64 (get_or ws i 0)) spot_limit
-short-at ws i s h = s _ (has_number ws i h)
+pub short_at : (ws : List ℕ) (i : ℕ) → AllShort (numbers ws) → i < length ws → Short (to_z w64 (get_or ws i 0)) spot_limit
+short_at ws i s h = s _ (has_number ws i h)
 
-pub spot-listed : (xs ys zs : List ℕ) (i j k : ℕ) → i < length xs → j < length ys → k < length zs → Listed (numbers xs) (numbers ys) (numbers zs) (spot xs ys zs i j k)
-spot-listed xs ys zs i j k h l m = record { x = has_number xs i h; y = has_number ys j l; z = has_number zs k m; w = refl }
+pub spot_listed : (xs ys zs : List ℕ) (i j k : ℕ) → i < length xs → j < length ys → k < length zs → Listed (numbers xs) (numbers ys) (numbers zs) (spot xs ys zs i j k)
+spot_listed xs ys zs i j k h l m = record { x = has_number xs i h; y = has_number ys j l; z = has_number zs k m; w = refl }
 
 -- where a number stands
 number_at : (ws : List ℕ) (m : ℤ) → Has (numbers ws) m → (i : ℕ) × (i < length ws) × (to_z w64 (get_or ws i 0) ≡ m)
@@ -25,10 +25,10 @@ number_at ws m h =
     let r = map_has (to_z w64) m ws h in
     (r.1.0, r.1.1.0, ap (to_z w64) (get_or_default ws r.1.0 0 r.0 r.1.1.0 ∙ r.1.1.1) ∙ r.2)
 
-pub listed-none : (f : Place → Bool) (xs ys zs : List ℕ) →
+pub listed_none : (f : Place → Bool) (xs ys zs : List ℕ) →
     ((i : ℕ) → i < length xs → (j : ℕ) → j < length ys → (k : ℕ) → k < length zs → f (spot xs ys zs i j k) ≡ false) →
     (q : Place) → Listed (numbers xs) (numbers ys) (numbers zs) q → f q ≡ false
-listed-none f xs ys zs n q l =
+listed_none f xs ys zs n q l =
     let a = number_at xs q.x l.x in
     let b = number_at ys q.y l.y in
     let c = number_at zs q.z l.z in

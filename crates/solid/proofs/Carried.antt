@@ -7,14 +7,14 @@ use Rattle.plane.specs.Planes.{below, scaled}
 use Rattle.plane.specs.Moves.{Together, moved_plane, moved_place, mirrored_plane, mirrored_place, swapped_plane, swapped_place, rolled_plane, rolled_place}
 use Rattle.solid.specs.Shapes.{holds}
 use Rattle.solid.specs.Laws.{Carried, MovesRight, OnePlace}
-use Rattle.plane.proofs.Invariance.{moved_together, mirrored_together, swapped_together, rolled_together, scaled-side}
-use Rattle.solid.proofs.Values.{by-same, by_with}
+use Rattle.plane.proofs.Invariance.{moved_together, mirrored_together, swapped_together, rolled_together, scaled_side}
+use Rattle.solid.proofs.Values.{by_same, by_with}
 
 -- if each height stays
 pub carried : (f : Plane → Plane) (g : Place → Place) → Together f g → Carried f g
 unfolding holds below
 carried f g t s q =
-    by_with (λ p. below p (g q)) f s ∙ by-same (λ p. below (f p) (g q)) (λ p. below p q) s (λ p h. ap (λ (k : ℤ). lt_z k (pos 0)) (t p q))
+    by_with (λ p. below p (g q)) f s ∙ by_same (λ p. below (f p) (g q)) (λ p. below p q) s (λ p h. ap (λ (k : ℤ). lt_z k (pos 0)) (t p q))
 
 pub moves_right : MovesRight
 moves_right = record {
@@ -27,4 +27,4 @@ moves_right = record {
 -- a place in other terms
 pub one_place : OnePlace
 unfolding holds
-one_place s q k l = by-same (λ p. below p (scaled k q)) (λ p. below p q) s (λ p h. (scaled-side p k q l).in_below)
+one_place s q k l = by_same (λ p. below p (scaled k q)) (λ p. below p q) s (λ p h. (scaled_side p k q l).in_below)

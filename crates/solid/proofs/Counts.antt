@@ -1,8 +1,9 @@
 -- How many pieces and faces a place is in.
 --     all_below-append, none_above-append            of the planes of an append
 --     in_pieces-append, in_faces-append              the counts of an append add up
---     nothing-there                                  a right model without pieces is of an empty shape
+--     nothing_there                                  a right model without pieces is of an empty shape
 use Rattle.std.proofs.Common.{◌≡◌, ℕ, ◌+◌, Bool, true, false, cond, not, ◌&&◌, List, [], ◌∷◌, ◌++◌, pos, sym, refl, ap, ◌∙◌, add_assoc, zero-add, arith}
+use Rattle.std.proofs.Math.Bool.{and_assoc}
 use lib.Signed.{lt_z}
 use Rattle.plane.specs.declared.types.Plane.{Plane}
 use Rattle.plane.specs.declared.types.Place.{Place}
@@ -10,10 +11,6 @@ use Rattle.plane.specs.Planes.{height, below, on, same_way}
 use Rattle.solid.specs.Shapes.{holds}
 use Rattle.solid.specs.Models.{Piece, Face, all_below, none_above, in_pieces, in_faces}
 use Rattle.solid.specs.Laws.{NothingThere}
-
-and_assoc : (x y z : Bool) → ((x && y) && z) ≡ (x && (y && z))
-and_assoc true y z = refl
-and_assoc false y z = refl
 
 pub all_below-append : (ps qs : List Plane) (q : Place) → all_below (ps ++ qs) q ≡ (all_below ps q && all_below qs q)
 unfolding all_below
@@ -46,6 +43,6 @@ none : (b : Bool) → ◌≡◌ {A = ℕ} 0 (cond b 1 0) → b ≡ false
 none true e = absurd (omega arith)
 none false e = refl
 
-pub nothing-there : NothingThere
+pub nothing_there : NothingThere
 unfolding in_pieces
-nothing-there s m r e q c = none (holds s q) (sym (ap (λ (cs : List Piece). in_pieces cs q) e) ∙ r.pieces.once q c)
+nothing_there s m r e q c = none (holds s q) (sym (ap (λ (cs : List Piece). in_pieces cs q) e) ∙ r.pieces.once q c)

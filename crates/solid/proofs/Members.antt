@@ -3,8 +3,10 @@
 --     has_left, has_right, has_part                  in an append, from a part and back
 --     at_read, has_read, at_is                       what is read at a number
 --     has_map, map_has                               in a list whose elements are changed
+--     each_of                                        what holds of all in a list holds of each
 use Rattle.std.proofs.Common.{◌≡◌, ℕ, zero, suc, ◌<◌, ◌⊎◌, List, [], ◌∷◌, ◌++◌, map, length, get_or, sym, refl, ◌∙◌, subst, inl, inr, arith}
 use Rattle.std.proofs.lemmas.List.{get_or_default}
+use Rattle.std.specs.List.{AllByRecursion}
 use Rattle.solid.specs.Shapes.{At, Has}
 
 module _ {A : Type 0} where
@@ -62,3 +64,7 @@ module _ {A B : Type 0} (f : A → B) where
     | inl e ↦ (z, has_here z xs, e)
     | inr k ↦ let r = map_has y xs k in (r.0, has_there z r.0 xs r.1, r.2)
   ]
+
+pub each_of : {A : Type 0} (P : A → Type 0) (xs : List A) → AllByRecursion P xs → (x : A) → Has xs x → P x
+each_of P [] a x h = absurd (has_none x h)
+each_of P (y ∷ xs) a x h = elim (has_either y x xs h) [ inl e ↦ subst P e a.0 | inr k ↦ each_of P xs a.1 x k ]

@@ -18,10 +18,10 @@ is_on Below = false
 is_on On = true
 is_on Above = false
 
-pub not-below : (s : Side) → (s ≡ Below → ⊥) → false ≡ is_below s
-not-below Below f = absurd (f refl)
-not-below On f = refl
-not-below Above f = refl
+pub not_below : (s : Side) → (s ≡ Below → ⊥) → false ≡ is_below s
+not_below Below f = absurd (f refl)
+not_below On f = refl
+not_below Above f = refl
 
 pub not_on : (s : Side) → (s ≡ On → ⊥) → false ≡ is_on s
 not_on Below f = refl

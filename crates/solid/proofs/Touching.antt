@@ -3,7 +3,8 @@
 --     on_some-append                                 on some plane of an append
 --     below_each, below_all                          all_below as said of each plane
 --     clear_off, off_clear                           Clear as real and on_some
-use Rattle.std.proofs.Common.{◌≡◌, ◌<◌, Bool, true, false, ◌||◌, List, [], ◌∷◌, ◌++◌, sym, refl, ap, ◌∙◌, subst, inl, inr}
+use Rattle.std.proofs.Common.{◌≡◌, ◌<◌, true, false, ◌||◌, List, [], ◌∷◌, ◌++◌, sym, refl, ap, ◌∙◌, subst, inl, inr}
+use Rattle.std.proofs.Math.Bool.{or_assoc}
 use Rattle.std.proofs.lemmas.Bool.{false≢true, or_cases, or_parts, or_from, or_left, or_right, and_parts, and_from}
 use Rattle.plane.specs.declared.types.Plane.{Plane}
 use Rattle.plane.specs.declared.types.Place.{Place}
@@ -43,10 +44,6 @@ module _ (q : Place) where
     | inl i ↦ or_left (on r q) (on_some ps q) (subst (λ s. on s q ≡ true) (sym i) e)
     | inr l ↦ or_right (on r q) (on_some ps q) (one_on ps p l e)
   ]
-
-  or_assoc : (x y z : Bool) → ((x || y) || z) ≡ (x || (y || z))
-  or_assoc true y z = refl
-  or_assoc false y z = refl
 
   pub on_some-append : (ps rs : List Plane) → on_some (ps ++ rs) q ≡ (on_some ps q || on_some rs q)
   unfolding on_some

@@ -1,5 +1,5 @@
 -- A shape's value, its planes and its words.
---     by-same                                        the value depends on what is said of the shape's planes alone
+--     by_same                                        the value depends on what is said of the shape's planes alone
 --     by_with, planes_with                           the value and the planes of a shape with changed planes
 --     words-length, words_few, planes_some           how many words and planes there are
 use Rattle.std.proofs.Common.{◌≡◌, ℕ, ◌+◌, ◌*◌, ◌<◌, Bool, not, ◌&&◌, ◌||◌, List, [], ◌∷◌, ◌++◌, map, length, sym, refl, ◌∙◌, ap₂, arith, length-append}
@@ -20,12 +20,12 @@ module _ (f g : Plane → Bool) where
   second : (ps qs : List Plane) → Agree f g (ps ++ qs) → Agree f g qs
   second ps qs a p h = a p (has_right p ps qs h)
 
-  pub by-same : (s : Shape) → ((p : Plane) → Has (planes s) p → f p ≡ g p) → by f s ≡ by g s
+  pub by_same : (s : Shape) → ((p : Plane) → Has (planes s) p → f p ≡ g p) → by f s ≡ by g s
   unfolding by planes
-  by-same (half p) a = a p (has_here p [])
-  by-same (both s t) a = ap₂ ◌&&◌ (by-same s (first (planes s) (planes t) a)) (by-same t (second (planes s) (planes t) a))
-  by-same (either s t) a = ap₂ ◌||◌ (by-same s (first (planes s) (planes t) a)) (by-same t (second (planes s) (planes t) a))
-  by-same (without s t) a = ap₂ (λ x y. x && not y) (by-same s (first (planes s) (planes t) a)) (by-same t (second (planes s) (planes t) a))
+  by_same (half p) a = a p (has_here p [])
+  by_same (both s t) a = ap₂ ◌&&◌ (by_same s (first (planes s) (planes t) a)) (by_same t (second (planes s) (planes t) a))
+  by_same (either s t) a = ap₂ ◌||◌ (by_same s (first (planes s) (planes t) a)) (by_same t (second (planes s) (planes t) a))
+  by_same (without s t) a = ap₂ (λ x y. x && not y) (by_same s (first (planes s) (planes t) a)) (by_same t (second (planes s) (planes t) a))
 
 -- changed planes
 pub by_with : (f : Plane → Bool) (g : Plane → Plane) (s : Shape) → by f (with_planes g s) ≡ by (λ p. f (g p)) s

@@ -3,7 +3,7 @@ use Rattle.model.specs.Wire.{InRangeFace}
 use Rattle.model.specs.Format.{face_bytes, listed}
 use Rattle.model.specs.Finds.{Few, Found}
 use Rattle.model.proofs.Things.{face_code}
-use Rattle.model.proofs.Finding.{found_no_number, so_far-none, so_far_more}
+use Rattle.model.proofs.Finding.{found_no_number, so_far_none, so_far_more}
 use Rattle.model.proofs.Ends.{list_stopped, list_done}
 use Rattle.model.proofs.measure.faces_end.Goals as goal
 
@@ -13,7 +13,7 @@ returns-in_err-at c =
     subst (Found (listed w32 face_bytes) (Few InRangeFace w32) l c.args.from) (sym c.from_residual.ensures) (found_no_number face_bytes InRangeFace w32 l c.args.from c.in_err-at.ensures)
 
 pub loop-init : goal.loop-init
-loop-init c = so_far-none face_bytes InRangeFace c.args.model.now c.in_ok-at.at c.in_ok-at.ensures.1
+loop-init c = so_far_none face_bytes InRangeFace c.args.model.now c.in_ok-at.at c.in_ok-at.ensures.1
 
 pub face_end-requires : goal.face_end-requires
 face_end-requires c = record { there = c.loop.invariant.2.within }

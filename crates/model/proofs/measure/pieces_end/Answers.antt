@@ -3,7 +3,7 @@ use Rattle.model.specs.Wire.{InRangePiece}
 use Rattle.model.specs.Format.{piece_bytes, listed}
 use Rattle.model.specs.Finds.{Few, Found}
 use Rattle.model.proofs.Things.{piece_code}
-use Rattle.model.proofs.Finding.{found_no_number, so_far-none, so_far_more}
+use Rattle.model.proofs.Finding.{found_no_number, so_far_none, so_far_more}
 use Rattle.model.proofs.Ends.{list_stopped, list_done}
 use Rattle.model.proofs.measure.pieces_end.Goals as goal
 
@@ -13,7 +13,7 @@ returns-in_err-at c =
     subst (Found (listed w32 piece_bytes) (Few InRangePiece w32) l 0) (sym c.from_residual.ensures) (found_no_number piece_bytes InRangePiece w32 l 0 c.in_err-at.ensures)
 
 pub loop-init : goal.loop-init
-loop-init c = so_far-none piece_bytes InRangePiece c.args.model.now c.in_ok-at.at c.in_ok-at.ensures.1
+loop-init c = so_far_none piece_bytes InRangePiece c.args.model.now c.in_ok-at.at c.in_ok-at.ensures.1
 
 pub piece_end-requires : goal.piece_end-requires
 piece_end-requires c = record { there = c.loop.invariant.2.within }

@@ -2,7 +2,7 @@ use Rattle.std.proofs.Common.{◌≡◌, ℕ, ◌+◌, ◌*◌, List, ◌++◌, 
 use lib.ListN.{length-map}
 use Rattle.model.specs.Wire.{wire_place}
 use Rattle.model.specs.Format.{listed, face_bytes, place_bytes, plane_bytes}
-use Rattle.model.proofs.Codes.{length-listed, length-plane, length-place, w_small}
+use Rattle.model.proofs.Codes.{length-listed, length-plane_bytes, length-place_bytes, w_small}
 use Rattle.model.proofs.Writes.{at_first, and_then, regroup₄}
 use Rattle.model.proofs.write.put_face.Goals as goal
 
@@ -26,10 +26,10 @@ returns c =
     let k = c.put_places.result in
     let ej : j ≡ 2 + 7 * length es = c.put_planes-at.ensures.long in
     let ek : k ≡ 2 + 32 * length qs = c.put_places.ensures.long in
-    let lc : length (listed w16 place_bytes (map wire_place qs)) ≡ k = length-listed w16 place_bytes 32 length-place (map wire_place qs) ∙ ap (λ (n : ℕ). 2 + 32 * n) (length-map qs wire_place) ∙ sym ek in
-    let one = at_first m (length-plane c.args.plane) c.put_plane.ensures in
-    let two = and_then (listed w16 plane_bytes es) c.put_planes-at.new.out j one (length-listed w16 plane_bytes 7 length-plane es ∙ sym ej) c.put_planes-at.ensures.written in
-    let three = and_then (place_bytes q) c.put_place.new.out 32 two (length-place q) c.put_place.ensures in
+    let lc : length (listed w16 place_bytes (map wire_place qs)) ≡ k = length-listed w16 place_bytes 32 length-place_bytes (map wire_place qs) ∙ ap (λ (n : ℕ). 2 + 32 * n) (length-map qs wire_place) ∙ sym ek in
+    let one = at_first m (length-plane_bytes c.args.plane) c.put_plane.ensures in
+    let two = and_then (listed w16 plane_bytes es) c.put_planes-at.new.out j one (length-listed w16 plane_bytes 7 length-plane_bytes es ∙ sym ej) c.put_planes-at.ensures.written in
+    let three = and_then (place_bytes q) c.put_place.new.out 32 two (length-place_bytes q) c.put_place.ensures in
     let four = and_then (listed w16 place_bytes (map wire_place qs)) c.put_places.new.out k three lc c.put_places.ensures.written in
     record {
       written = four.is ∙ ap (λ (l : List ℕ). l ++ drop (7 + j + 32 + k) m) (regroup₄ (plane_bytes c.args.plane) (listed w16 plane_bytes es) (place_bytes q) (listed w16 place_bytes (map wire_place qs)));

@@ -2,7 +2,7 @@ use Rattle.std.proofs.Common.{◌≡◌, ℕ, ◌-◌, List, ◌++◌, length, d
 use borrow.Rule.Slice.PartMut.{put_mid}
 use mir.Facts.{to_z_pos}
 use Rattle.model.specs.Format.{place_bytes, signed_bytes}
-use Rattle.model.proofs.Codes.{length-signed}
+use Rattle.model.proofs.Codes.{length-signed_bytes}
 use Rattle.model.proofs.Writes.{at_first, and_then, part, regroup₄}
 use Rattle.model.proofs.write.put_place.Goals as goal
 
@@ -22,8 +22,8 @@ returns c =
     let m1 = c.put_signed.new.out in
     let m2 = put_mid 8 (length m1 - 8) m1 c.put_signed-2.new.out in
     let m3 = put_mid 16 (length m2 - 16) m2 c.put_signed-3.new.out in
-    let one = at_first m {m1 = m1} {n = 8} (length-signed w64 q.x) (written m c.put_signed.ensures x) in
-    let two = and_then (signed_bytes w64 q.y) c.put_signed-2.new.out 8 one (length-signed w64 q.y) (written (part 8 m1) c.put_signed-2.ensures y) in
-    let three = and_then (signed_bytes w64 q.z) c.put_signed-3.new.out 8 two (length-signed w64 q.z) (written (part 16 m2) c.put_signed-3.ensures z) in
-    let four = and_then (signed_bytes w64 (pos q.w)) c.put_signed-4.new.out 8 three (length-signed w64 (pos q.w)) (written (part 24 m3) c.put_signed-4.ensures w) in
+    let one = at_first m {m1 = m1} {n = 8} (length-signed_bytes w64 q.x) (written m c.put_signed.ensures x) in
+    let two = and_then (signed_bytes w64 q.y) c.put_signed-2.new.out 8 one (length-signed_bytes w64 q.y) (written (part 8 m1) c.put_signed-2.ensures y) in
+    let three = and_then (signed_bytes w64 q.z) c.put_signed-3.new.out 8 two (length-signed_bytes w64 q.z) (written (part 16 m2) c.put_signed-3.ensures z) in
+    let four = and_then (signed_bytes w64 (pos q.w)) c.put_signed-4.new.out 8 three (length-signed_bytes w64 (pos q.w)) (written (part 24 m3) c.put_signed-4.ensures w) in
     four.is ∙ ap (λ (l : List ℕ). l ++ drop 32 m) (regroup₄ (signed_bytes w64 q.x) (signed_bytes w64 q.y) (signed_bytes w64 q.z) (signed_bytes w64 (pos q.w)))

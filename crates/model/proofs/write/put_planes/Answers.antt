@@ -2,7 +2,7 @@ use Rattle.std.proofs.Common.{◌≡◌, ℕ, ◌+◌, ◌*◌, ◌≤◌, lengt
 use Rattle.std.proofs.ByRecursion.{All-get_or}
 use Rattle.model.specs.Wire.{InRangePlane}
 use Rattle.model.specs.Format.{plane_bytes, listed}
-use Rattle.model.proofs.Codes.{length-plane, length_count}
+use Rattle.model.proofs.Codes.{length-plane_bytes, length_count}
 use Rattle.model.proofs.Writes.{at_first, listing_none, listing_more, listing_all, room_left}
 use Rattle.model.proofs.write.put_planes.Goals as goal
 
@@ -20,7 +20,7 @@ pub loop-p-preserved : goal.loop-p-preserved
 loop-p-preserved c =
     let e : c.loop-p.at ≡ 2 + 7 * c.loop-p.p-index = c.loop-p.invariant.0 in (
       omega arith,
-      listing_more plane_bytes c.args.planes.now 2 c.put_short.new.out c.loop-p.p-index _ c.put_plane.new.out 7 c.loop-p-test.true c.loop-p.invariant.1 (length-plane _) c.put_plane.ensures,
+      listing_more plane_bytes c.args.planes.now 2 c.put_short.new.out c.loop-p.p-index _ c.put_plane.new.out 7 c.loop-p-test.true c.loop-p.invariant.1 (length-plane_bytes _) c.put_plane.ensures,
     )
 
 pub returns : goal.returns

@@ -5,7 +5,7 @@ use Rattle.grammar.specs.Grammar.{signed}
 use Rattle.grammar.specs.Tokens.{tok_at}
 use Rattle.grammar.specs.Values.{number_limit}
 use Rattle.reader.specs.Lines.{PartAt}
-use Rattle.reader.proofs.Numbers.{box-numbers, number_read}
+use Rattle.reader.proofs.Numbers.{box_numbers, number_read}
 use Rattle.reader.proofs.build.box_of.Goals as goal
 
 -- what is read where a number stands
@@ -24,7 +24,7 @@ record Sides (text ps : List ℕ) (b : PartAt text ps) (r0 r1 r2 r3 r4 r5 : ℤ)
 sides : (text ps : List ℕ) → 9 ≤ length ps → (b : PartAt text ps) (r0 r1 r2 r3 r4 r5 : ℤ) →
     Read text ps 3 r0 → Read text ps 4 r1 → Read text ps 5 r2 → Read text ps 6 r3 → Read text ps 7 r4 → Read text ps 8 r5 → Sides text ps b r0 r1 r2 r3 r4 r5
 sides text ps long b r0 r1 r2 r3 r4 r5 f0 f1 f2 f3 f4 f5 =
-    let n = box-numbers b.x0 b.x1 b.y0 b.y1 b.z0 b.z1 b.sound in
+    let n = box_numbers b.x0 b.x1 b.y0 b.y1 b.z0 b.z1 b.sound in
     let word = λ (k : ℕ). ap (λ (ws : List (List ℕ)). get_or ws k []) b.read in
     record {
       x0 = number_read text ps 3 r0 b.x0 (omega arith) (word 3) n.x0 f0;

@@ -1,6 +1,6 @@
 use Rattle.std.proofs.Common.{arith}
 use Rattle.std.proofs.lemmas.List.{length-take}
-use Rattle.reader.proofs.Laying.{starts, tail-inside, tail-length, front_inside, part_room, part-there, part_laid, place_room, place_laid, ends}
+use Rattle.reader.proofs.Laying.{starts, tail_inside, tail-length, front_inside, part_room, part_there, part_laid, place_room, place_laid, ends}
 use Rattle.reader.proofs.build.build.Goals as goal
 
 pub loop-at-init : goal.loop-at-init
@@ -8,7 +8,7 @@ loop-at-init c = starts _ _ _ _ _ _ c.requires.taken
 
 pub is_part-requires : goal.is_part-requires
 is_part-requires c =
-    tail-inside c.args.text.now c.args.tokens.now c.loop-at.at c.requires.taken.inside 0 (omega (arith, tail-length c.loop-at.at c.args.tokens.now))
+    tail_inside c.args.text.now c.args.tokens.now c.loop-at.at c.requires.taken.inside 0 (omega (arith, tail-length c.loop-at.at c.args.tokens.now))
 
 pub part_line-requires : goal.part_line-requires
 part_line-requires c =
@@ -17,8 +17,8 @@ part_line-requires c =
     let t = tail-length c.loop-at.at c.args.tokens.now in
     record {
       long = l;
-      inside = tail-inside c.args.text.now c.args.tokens.now c.loop-at.at c.requires.taken.inside;
-      taken = part-there g c.loop-at-test.true c.if-is_part.ensures;
+      inside = tail_inside c.args.text.now c.args.tokens.now c.loop-at.at c.requires.taken.inside;
+      taken = part_there g c.loop-at-test.true c.if-is_part.ensures;
       spots_room = omega arith;
       steps_room = omega arith;
     }
@@ -32,7 +32,7 @@ place_line-requires c =
     let t = tail-length c.loop-at.at c.args.tokens.now in
     record {
       long = l;
-      inside = tail-inside c.args.text.now c.args.tokens.now c.loop-at.at c.requires.taken.inside;
+      inside = tail_inside c.args.text.now c.args.tokens.now c.loop-at.at c.requires.taken.inside;
       names = front_inside c.args.text.now c.args.names.now _ c.requires.taken.names_inside;
       spots = simp length-take (omega arith);
       asked_room = omega arith;

@@ -5,7 +5,7 @@ use Rattle.grammar.specs.Tokens.{tok_at}
 use Rattle.grammar.specs.Values.{number_limit}
 use Rattle.reader.specs.Lines.{pair_of}
 use Rattle.reader.specs.Names.{words_at}
-use Rattle.reader.proofs.Numbers.{place-numbers, word_at, number_read}
+use Rattle.reader.proofs.Numbers.{place_numbers, word_at, number_read}
 use Rattle.reader.proofs.Pairs.{pair_whole, written}
 use Rattle.reader.proofs.build.place_line.Goals as goal
 
@@ -26,7 +26,7 @@ returns c p =
     let text = c.args.text.now in
     let line = c.args.line.now in
     let pairs = pair_of (words_at text c.args.names.now) c.args.spots.now in
-    let n = place-numbers p.x p.y p.z p.w p.sound in
+    let n = place_numbers p.x p.y p.z p.w p.sound in
     let word = λ (k : ℕ). ap (λ (ws : List (List ℕ)). get_or ws k []) p.read in
     let name = c.token_at.ensures ∙ word_at text line 1 p.name.0 (omega arith) (word 1) in
     let two : length c.spot_of-spot.result ≡ 2 = search rules in

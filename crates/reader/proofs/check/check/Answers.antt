@@ -10,7 +10,7 @@ use Rattle.reader.specs.declared.types.Look.TheVariants.{Wrong, Next, Done}
 use Rattle.reader.specs.Names.{words_at}
 use Rattle.reader.specs.Scan.{Looked, with_name}
 use Rattle.grammar.proofs.First.{starts_inside}
-use Rattle.reader.proofs.Checks.{Scanned, whole, turn-first, turn_skip, turn-next, turn_wrong, turn_done, turn-over, name_put, names_put, names_kept, taken_get_d}
+use Rattle.reader.proofs.Checks.{Scanned, whole, turn_first, turn_skip, turn_next, turn_wrong, turn_done, turn_over, name_put, names_put, names_kept, taken_get_d}
 use Rattle.reader.proofs.check.check.Goals as goal
 use Rattle.reader.proofs.check.check.Goals.{then-at-read-via-then-at-read, then-at-read-via-else-at-read+then-read-at, in-AtNewName, in_default}
 
@@ -19,7 +19,7 @@ token_at-word-requires c =
     let h = starts_inside c.args.text.now c.args.tokens.now c.loop-k.k c.requires.tokens c.loop-k-test.true in omega arith
 
 pub loop-k-init : goal.loop-k-init
-loop-k-init c = (turn-first c.args.text.now c.args.read c.args.names.now c.args.tokens.now c.requires.tokens, omega arith, refl)
+loop-k-init c = (turn_first c.args.text.now c.args.read c.args.names.now c.args.tokens.now c.requires.tokens, omega arith, refl)
 
 -- a word that is not read to its end
 unread : (at read n m : ℕ) → n ≡ m → (read < at → leb (at + m) read ≡ false) × (at ≤ read → read - at < n → leb (at + m) read ≡ false)
@@ -90,7 +90,7 @@ loop-k-preserved c =
     Scanned bs c.args.read ns n e (drop (c.loop-k.k + 1) c.args.tokens.now) × (n ≤ c.loop-k.k + 1) × (length ns ≡ length c.args.names.now) in
     let turn : (ns : List ℕ) (n : ℕ) → words_at bs (take n ns) ≡ with_name c.loop-k.expect (words_at bs (take c.loop-k.parts c.loop-k.names)) (tok_at (drop p bs)) →
     ((j : ℕ) → j < n → get_or ns j 0 < length bs) → Scanned bs c.args.read ns n c.in-Next.next (drop (c.loop-k.k + 1) c.args.tokens.now) =
-    λ ns n e i. turn-next bs c.args.read c.loop-k.names c.loop-k.parts c.loop-k.expect c.args.tokens.now c.loop-k.k c.loop-k-test.true c.loop-k.invariant.0 c.in-Next.next ns n g l e i in
+    λ ns n e i. turn_next bs c.args.read c.loop-k.names c.loop-k.parts c.loop-k.expect c.args.tokens.now c.loop-k.k c.loop-k-test.true c.loop-k.invariant.0 c.in-Next.next ns n g l e i in
     elim c.match-expect.branch [
       | in-AtNewName w ↦
           subst₃ P (sym w.names-is) (sym w.parts-is) (sym w.expect-is) (
@@ -112,5 +112,5 @@ loop-k-preserved c =
 
 pub returns : goal.returns
 returns c =
-    let d = turn-over c.args.text.now c.args.read c.loop-k.names c.loop-k.parts c.loop-k.expect c.args.tokens.now c.loop-k.k c.loop-k-test.false c.loop-k.invariant.0 in
+    let d = turn_over c.args.text.now c.args.read c.loop-k.names c.loop-k.parts c.loop-k.expect c.args.tokens.now c.loop-k.k c.loop-k-test.false c.loop-k.invariant.0 in
     (d.0, omega (arith, c.loop-k.invariant.1, c.loop-k.invariant.2), d.1, c.loop-k.invariant.0.inside)

@@ -1,6 +1,6 @@
 use Rattle.std.proofs.Common.{◌<◌, inl, inr}
 use Rattle.grammar.specs.Faults.{most_bytes}
-use Rattle.reader.proofs.Examining.{reach-below, last_none, last_whole, last_long, last_stuck}
+use Rattle.reader.proofs.Examining.{reach_below, last_none, last_whole, last_long, last_stuck}
 use Rattle.reader.proofs.examine.last_fault.Goals as goal
 
 pub returns-then-reach : goal.returns-then-reach
@@ -17,5 +17,5 @@ returns-then-reach-eq-MOST_BYTES c = last_long c.args.text.now c.args.reach c.re
 
 pub returns : goal.returns
 returns c =
-    let h : c.args.reach.at < most_bytes = reach-below c.args.text.now c.args.reach c.requires.reach c.if-reach-eq-MOST_BYTES.false in
+    let h : c.args.reach.at < most_bytes = reach_below c.args.text.now c.args.reach c.requires.reach c.if-reach-eq-MOST_BYTES.false in
     last_stuck c.args.text.now c.args.reach c.requires.reach c.requires.clean c.if-reach-2.false (inr h)

@@ -1,5 +1,5 @@
 use Rattle.std.proofs.Common.{◌<◌, ◌≤◌, length, arith}
-use Rattle.reader.proofs.Letters.{all_goes_on, all_stops, all-over, no_word, a_word}
+use Rattle.reader.proofs.Letters.{all_goes_on, all_stops, all_over, no_word, a_word}
 use Rattle.reader.proofs.looks.is_word.Goals as goal
 
 pub returns-then-not-is_alnum : goal.returns-then-not-is_alnum
@@ -14,4 +14,4 @@ returns c =
     let w = c.args.word.now in
     let h : 0 < length w = omega arith in
     let l : length w ≤ 12 = omega arith in
-    a_word w h l c.if-not-is_letter.ensures (all-over w c.loop-b.b-index c.loop-b-test.false c.loop-b.invariant)
+    a_word w h l c.if-not-is_letter.ensures (all_over w c.loop-b.b-index c.loop-b-test.false c.loop-b.invariant)

@@ -3,7 +3,7 @@ use mathlib.Core.Option.{some}
 use Rattle.grammar.specs.Machine.{run, Good}
 use Rattle.reader.specs.Stack.{stack_of}
 use Rattle.reader.specs.Reading.{between}
-use Rattle.reader.proofs.Turn.{turn_on, turn_depth, turn-word, turn_stuck, good_none, good_word, end_whole, end_bad}
+use Rattle.reader.proofs.Turn.{turn_on, turn_depth, turn_word, turn_stuck, good_none, good_word, end_whole, end_bad}
 use Rattle.reader.proofs.machine.read_text.Goals as goal
 use Rattle.reader.proofs.machine.read_text.Goals.{in-On, in-Word}
 
@@ -44,7 +44,7 @@ loop-i-preserved c =
           let e = k.0 in
           let g = k.1 in
           subst₂ P (sym w.depth-is) (sym w.start-is)
-          (turn-word bs st st' i s depth c.loop-i-test.true c.loop-i.invariant.0 c.loop-i.invariant.2 e, good_word s i bs c.loop-i.invariant.2 c.loop-i-test.true g, omega arith, omega arith, omega (arith, c.advance.auto.stack))
+          (turn_word bs st st' i s depth c.loop-i-test.true c.loop-i.invariant.0 c.loop-i.invariant.2 e, good_word s i bs c.loop-i.invariant.2 c.loop-i-test.true g, omega arith, omega arith, omega (arith, c.advance.auto.stack))
     ]
 
 pub returns-then-depth-eq0 : goal.returns-then-depth-eq0

@@ -4,12 +4,12 @@ use Rattle.arith.proofs.Sized.{is_num, is_short}
 use Rattle.solid.proofs.Members.{has_read}
 use Rattle.search.specs.Levels.{numbers, middles}
 use Rattle.search.proofs.Axes.{number_short}
-use Rattle.search.proofs.Middles.{numbers-none, one_more, none_more}
+use Rattle.search.proofs.Middles.{numbers_none, one_more, none_more}
 use Rattle.search.proofs.levels.write_middles.Goals as goal
 use Rattle.search.proofs.levels.write_middles.Goals.{in-Some, in_default}
 
 pub loop-p-init : goal.loop-p-init
-loop-p-init c = (omega arith, numbers-none c.args.out.now c.cast_unsigned.result (omega arith) ∙ ap (λ (w : ℕ). to_z w64 w ∷ []) c.cast_unsigned.ensures)
+loop-p-init c = (omega arith, numbers_none c.args.out.now c.cast_unsigned.result (omega arith) ∙ ap (λ (w : ℕ). to_z w64 w ∷ []) c.cast_unsigned.ensures)
 
 pub number_of-requires : goal.number_of-requires
 number_of-requires c = (c.requires.level _ (has_read c.args.planes.now c.loop-p.p-index _ c.loop-p-test.true)).0

@@ -1,16 +1,13 @@
-use Rattle.std.proofs.Common.{◌≡◌, Bool, true, false, ◌||◌, sym, refl, ap, ◌∙◌, inl, inr}
+use Rattle.std.proofs.Common.{sym, ap, ◌∙◌, inl, inr}
+use Rattle.std.proofs.Math.Bool.{or-false}
 use Rattle.solid.specs.declared.types.Step.{Step}
 use Rattle.solid.specs.Stacks.{plane_of_step}
 use Rattle.solid.specs.Examples.{on_some}
 use Rattle.solid.proofs.value.meets.Goals as goal
 
-or_false : (x : Bool) → x ≡ (x || false)
-or_false true = refl
-or_false false = refl
-
 pub returns-in-Half : goal.returns-in-Half
 unfolding on_some
-returns-in-Half c = c.is_on.ensures ∙ or_false _ ∙ ap (λ (x : Step). on_some (plane_of_step x) c.args.q) (sym c.in-Half.is)
+returns-in-Half c = c.is_on.ensures ∙ sym (or-false _) ∙ ap (λ (x : Step). on_some (plane_of_step x) c.args.q) (sym c.in-Half.is)
 
 pub returns-in-Both : goal.returns-in-Both
 unfolding on_some
