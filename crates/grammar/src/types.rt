@@ -1,7 +1,7 @@
 //! What a text is made of, as the reader meets it.
 
 /// The byte that ends a number, a name or a shape.
-#[derive(Clone, Copy)]
+#[derive(Clone, Copy, PartialEq, Eq)]
 pub enum Sep {
     Space,
     Comma,
@@ -10,7 +10,7 @@ pub enum Sep {
 }
 
 /// What a word is, where a shape is expected.
-#[derive(Clone, Copy)]
+#[derive(Clone, Copy, PartialEq, Eq)]
 pub enum Kind {
     HalfWord,
     BoxWord,

@@ -1,10 +1,10 @@
 -- The questions of lines that are taken, as they lie in words.
 --     asked_lies, laid_lies        each question lies at its number, in the words of the lines and where they are laid
 --     lies-place, lies_steps       its place and its steps, read from the words
-use Rattle.std.proofs.Common.{◌≡◌, ℕ, zero, suc, ◌+◌, ◌*◌, ◌<◌, ◌≤◌, Bool, true, false, ◌||◌, List, [], ◌∷◌, ◌++◌, length, get_or, take, drop, ℤ, neg_ℤ, nat_abs, sym, refl, ap, ◌∙◌, subst, inl, inr, append_assoc, append-nil, add-zero, zero-add, arith, w64, to_z, of_z, rules}
+use Rattle.std.proofs.Common.{◌≡◌, ℕ, zero, suc, ◌+◌, ◌*◌, ◌<◌, ◌≤◌, Bool, true, false, ◌||◌, List, [], ◌∷◌, ◌++◌, length, get_or, take, drop, ℤ, neg_ℤ, nat_abs, sym, refl, ap, ◌∙◌, subst, subst₂, inl, inr, append_assoc, append-nil, add-zero, zero-add, arith, w64, to_z, of_z, rules}
 use Rattle.std.specs.List.{AllByRecursion}
 use Rattle.std.proofs.lemmas.Int.{ints}
-use Rattle.std.proofs.lemmas.List.{take_at, take-append-le, take-append-drop, get_or-take, map_push, drop_at, drop-append-le, drop-drop, length-append, length-drop, get_or-append-add}
+use Rattle.std.proofs.lemmas.List.{take_at, take-append-le, map_push, drop_at, drop-append-le, drop-drop, length-append, length-drop, get_or-append-add}
 use Rattle.std.proofs.lemmas.Bool.{both_ways, cond-true, cond-false}
 use Rattle.arith.specs.Bounds.{Short}
 use Rattle.arith.proofs.Sized.{is_num}
@@ -17,7 +17,7 @@ use Rattle.grammar.specs.Values.{number_limit}
 use Rattle.grammar.specs.Grammar.{Expr, half, box, two, move, one, called, Line, part, place, same_as, meet, model, same, one_of}
 use Rattle.grammar.specs.Meaning.{Part, says, named, Question, where_is, at, questions, fine_shape, fine}
 use Rattle.reader.specs.Asked.{Lies}
-use Rattle.reader.specs.declared.types.Counts.{Counts}
+use Rattle.reader.specs.declared.types.Layout.{Layout}
 use Rattle.reader.specs.Layout.{Laid, with_part, part_steps, spot, asked_words}
 use Rattle.reader.proofs.Spots.{names_of, steps_of, steps_push}
 use Rattle.reader.proofs.Next.{part_sound, place_sound}
@@ -209,16 +209,8 @@ pub asked_lies : (ls : List Line) → fine [] ls ≡ true → (k : ℕ) → k < 
 asked_lies ls h k l d = lies_from [] ls tt h k l d
 
 -- and so where they are laid
-pub laid_lies : (ls : List Line) (n : Counts) (steps asked : List ℕ) → Laid ls n steps asked → fine [] ls ≡ true → (k : ℕ) → k < n.asked → (d : Question) →
-    Lies steps asked k (get_or (questions [] ls) k d)
-laid_lies ls n steps asked t h k l d =
-    let q = get_or (questions [] ls) k d in
-    let m = 6 * n.asked in
-    let e : part_steps [] ls ++ drop n.used steps ≡ steps = ap (λ (ss : List ℕ). ss ++ drop n.used steps) (sym t.steps_are) ∙ take-append-drop n.used steps in
-    subst (λ (ss : List ℕ). Lies ss asked k q) e
-    (moved (part_steps [] ls) (drop n.used steps) (asked_words [] ls) asked k k q (omega (arith, t.asked_fits))
-    (λ i b. sym (get_or-take m asked (6 * k + i) 0 (omega arith)) ∙ ap (λ (ws : List ℕ). get_or ws (6 * k + i) 0) t.asked_are)
-    (asked_lies ls h k (omega (arith, t.count)) d))
+pub laid_lies : (ls : List Line) (l : Layout) → Laid ls l → fine [] ls ≡ true → (k : ℕ) → k < length (questions [] ls) → (d : Question) → Lies l.steps.now l.asked.now k (get_or (questions [] ls) k d)
+laid_lies ls l t h k n d = subst₂ (λ steps asked. Lies steps asked k (get_or (questions [] ls) k d)) (sym t.steps_are) (sym t.asked_are) (asked_lies ls h k n d)
 
 -- a coordinate, back from its word
 back : (v : ℕ) (x : ℤ) → v ≡ of_z w64 x → Short x coordinate_limit → to_z w64 v ≡ x

@@ -1,10 +1,9 @@
 -- The numbers of lines that are taken.
 --     box_numbers, place_numbers      they are in range
---     word_at, number_read            the k-th word, and the number that is read there
+--     number_read                     the number that is read where one stands
 --     box_length                      how many steps a box has
-use Rattle.std.proofs.Common.{◌≡◌, ℕ, ◌<◌, ◌≤◌, true, false, ◌&&◌, List, [], length, get_or, drop, ℤ, pos, negsuc, nat_abs, sym, refl, ◌∙◌, arith, w64, to_z, of_z}
+use Rattle.std.proofs.Common.{◌≡◌, ℕ, ◌<◌, ◌≤◌, true, false, ◌&&◌, List, length, ℤ, pos, negsuc, nat_abs, refl, arith, w64, to_z, of_z}
 use lib.Signed.{le_z}
-use Rattle.std.proofs.lemmas.List.{get_or-map}
 use Rattle.std.proofs.lemmas.Bool.{and_parts, both_ways, leb-true}
 use Rattle.arith.specs.Bounds.{Short}
 use Rattle.solid.specs.Shapes.{box as box_of}
@@ -12,9 +11,7 @@ use Rattle.solid.specs.Steps.{words}
 use Rattle.arith.proofs.Sized.{Is, is_back}
 use Rattle.grammar.specs.Grammar.{signed, box}
 use Rattle.grammar.specs.Meaning.{short, scales, fine_shape}
-use Rattle.grammar.specs.Tokens.{tok_at}
 use Rattle.grammar.specs.Values.{number_limit, scale_most}
-use Rattle.reader.specs.Names.{words_at}
 
 pub short_is : (z : ℤ) → short z ≡ true → Short z number_limit
 short_is z e = record { size = leb-true (nat_abs z) number_limit e }
@@ -67,14 +64,9 @@ place_numbers x y z w e =
     let s = scale_is w d.0 d.1 in
     record { x = short_is x a.0; y = short_is y b.0; z = short_is z c.0; w_short = record { size = omega (arith, s.0) }; w = s.0; real = s.1; some = s.2 }
 
--- the k-th word of some that begin at bytes ps of a text
-pub word_at : (text ps : List ℕ) (k : ℕ) (w : List ℕ) → k < length ps → get_or (words_at text ps) k [] ≡ w → tok_at (drop (get_or ps k 0) text) ≡ w
-word_at text ps k w h e = sym (get_or-map (λ p. tok_at (drop p text)) ps k 0 [] h) ∙ e
-
 -- the number r that is read where z stands, as it is passed on
-pub number_read : (text ps : List ℕ) (k : ℕ) (r z : ℤ) → k < length ps → get_or (words_at text ps) k [] ≡ signed z → Short z number_limit →
-    ((y : ℤ) → tok_at (drop (get_or ps k 0) text) ≡ signed y → Short y number_limit → r ≡ y) → Is (to_z w64 (of_z w64 r)) z number_limit
-number_read text ps k r z h e s f = is_back (record { same = f z (word_at text ps k (signed z) h e) s; short = s }) tt
+pub number_read : (w : List ℕ) (r z : ℤ) → w ≡ signed z → Short z number_limit → ((y : ℤ) → w ≡ signed y → Short y number_limit → r ≡ y) → Is (to_z w64 (of_z w64 r)) z number_limit
+number_read w r z e s f = is_back (record { same = f z e s; short = s }) tt
 
 pub box_length : (x0 x1 y0 y1 z0 z1 : ℤ) → length (words (box_of x0 x1 y0 y1 z0 z1)) ≡ 11
 unfolding words box_of

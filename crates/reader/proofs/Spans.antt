@@ -1,29 +1,27 @@
 -- Words and numbers as parts of the text.
-use Rattle.std.proofs.Common.{◌≡◌, ℕ, ◌+◌, ◌<◌, ◌≤◌, true, false, List, [], ◌∷◌, ◌++◌, length, get_or, drop, sym, ap, ◌∙◌, append_assoc, append-nil}
-use native.Mathlib.Nat.{sub_self}
-use Rattle.std.specs.List.{between}
-use Rattle.std.proofs.lemmas.List.Edits.{between_more}
-use Rattle.std.proofs.lemmas.List.{drop_more, drop_all}
-use Rattle.std.proofs.lemmas.Bool.{cond-true, cond-false}
+use Rattle.std.proofs.Common.{◌≡◌, ℕ, suc, ◌+◌, ◌<◌, ◌≤◌, Bool, true, false, cond, not, ltb, ◌⊎◌, List, [], ◌∷◌, length, take, Some, None, Option, sym, refl, ap, ◌∙◌, inl, inr, arith, le-ltb, lt-ltb}
+use Rattle.std.specs.Option.{unwrap_or}
+use Rattle.std.specs.List.{position_or_len}
+use Rattle.std.proofs.lemmas.Bool.{cases_lt}
+use Rattle.std.proofs.lemmas.List.{take_all}
 use Rattle.grammar.specs.Tokens.{in_tok, tok_at}
 
-pub token_goes_on : (xs : List ℕ) (i : ℕ) → i < length xs → in_tok (get_or xs i 0) ≡ true → tok_at (drop i xs) ≡ get_or xs i 0 ∷ tok_at (drop (i + 1) xs)
-token_goes_on xs i h e = ap tok_at (drop_more xs i 0 h) ∙ cond-true (in_tok (get_or xs i 0)) _ _ e
+abbrev pub ends : ℕ → Bool
+ends b = not (in_tok b)
 
-pub token_stops : (xs : List ℕ) (i : ℕ) → i < length xs → in_tok (get_or xs i 0) ≡ false → tok_at (drop i xs) ≡ []
-token_stops xs i h e = ap tok_at (drop_more xs i 0 h) ∙ cond-false (in_tok (get_or xs i 0)) _ _ e
+-- a word ends at the first byte that is none of a word's
+token_front : (xs : List ℕ) → take (position_or_len ends xs) xs ≡ tok_at xs
+token_front [] = refl
+token_front (b ∷ bs) = go (in_tok b) (token_front bs)
+  where
+    go : (t : Bool) → take (position_or_len ends bs) bs ≡ tok_at bs →
+        take (cond (not (not t)) (1 + position_or_len ends bs) 0) (b ∷ bs) ≡ cond t (b ∷ tok_at bs) []
+    go true e = let h : 1 + position_or_len ends bs ≡ suc (position_or_len ends bs) = omega arith in rw h (ap (λ (l : List ℕ). b ∷ l) e)
+    go false e = refl
 
-pub token_ends : (xs : List ℕ) (i : ℕ) → length xs ≤ i → tok_at (drop i xs) ≡ []
-token_ends xs i h = ap tok_at (drop_all i xs h)
-
-pub token_begins : (xs : List ℕ) (a : ℕ) → between a a xs ++ tok_at (drop a xs) ≡ tok_at (drop a xs)
-token_begins xs a = rw sub_self
-
-pub token_more : (xs : List ℕ) (a i : ℕ) → a ≤ i → i < length xs → in_tok (get_or xs i 0) ≡ true → between a i xs ++ tok_at (drop i xs) ≡ tok_at (drop a xs) →
-    between a (i + 1) xs ++ tok_at (drop (i + 1) xs) ≡ tok_at (drop a xs)
-token_more xs a i l h e inv =
-    ap (λ (x : List ℕ). x ++ tok_at (drop (i + 1) xs)) (between_more xs a i 0 l h) ∙ append_assoc (between a i xs) (get_or xs i 0 ∷ []) (tok_at (drop (i + 1) xs))
-    ∙ ap (λ (x : List ℕ). between a i xs ++ x) (sym (token_goes_on xs i h e)) ∙ inv
-
-pub token_done : (xs : List ℕ) (a i : ℕ) → tok_at (drop i xs) ≡ [] → between a i xs ++ tok_at (drop i xs) ≡ tok_at (drop a xs) → between a i xs ≡ tok_at (drop a xs)
-token_done xs a i e inv = sym (append-nil (between a i xs)) ∙ ap (λ (x : List ℕ). between a i xs ++ x) (sym e) ∙ inv
+pub token_taken : (xs : List ℕ) (r : Option ℕ) → r ≡ cond (ltb (position_or_len ends xs) (length xs)) (Some (position_or_len ends xs)) None → take (unwrap_or r (length xs)) xs ≡ tok_at xs
+token_taken xs r e = ap (λ (o : Option ℕ). take (unwrap_or o (length xs)) xs) e ∙ go (position_or_len ends xs) (cases_lt (position_or_len ends xs) (length xs)) ∙ token_front xs
+  where
+    go : (n : ℕ) → (n < length xs) ⊎ (length xs ≤ n) → take (unwrap_or (cond (ltb n (length xs)) (Some n) None) (length xs)) xs ≡ take n xs
+    go n (inl h) = ap (λ (b : Bool). take (unwrap_or (cond b (Some n) None) (length xs)) xs) (lt-ltb _ _ h)
+    go n (inr h) = ap (λ (b : Bool). take (unwrap_or (cond b (Some n) None) (length xs)) xs) (le-ltb _ _ h) ∙ take_all (length xs) xs (omega arith) ∙ sym (take_all n xs h)

@@ -1,9 +1,9 @@
 -- Where the steps of each part lie, and how a part is found by its name.
 --     steps_push, spots_push      the steps and the spots with one more part
---     pair_front, spot_pair       a part's spot is the pair of its name
-use Rattle.std.proofs.Common.{◌≡◌, ℕ, ◌+◌, ◌*◌, cond, List, [], ◌∷◌, ◌++◌, map, length, take, drop, sym, refl, ap, ◌∙◌, append_assoc, append-nil, arith}
+--     spot_pair                   a part's spot is the pair of its name
+use Rattle.std.proofs.Common.{◌≡◌, ℕ, ◌+◌, ◌*◌, Bool, true, false, cond, List, [], ◌∷◌, ◌++◌, map, length, sym, refl, ap, ◌∙◌, append_assoc, append-nil, arith}
 use Rattle.std.specs.List.{flat_map}
-use Rattle.std.proofs.lemmas.List.{take-take, drop-take, length-append}
+use Rattle.std.proofs.lemmas.List.{length-append}
 use Rattle.solid.specs.Steps.{words}
 use Rattle.grammar.specs.Grammar.{same}
 use Rattle.grammar.specs.Meaning.{Part}
@@ -34,16 +34,19 @@ spots_push u (q ∷ ps) p =
     let e : u + n + length (steps_of ps) ≡ u + length (words q.shape ++ steps_of ps) = simp length-append (omega arith) in
     ap (λ (l : List ℕ). u ∷ n ∷ l) (spots_push (u + n) ps p ∙ ap (λ (m : ℕ). spots_of (u + n) ps ++ m ∷ length (words p.shape) ∷ []) e)
 
--- the spot of a part, by its name
-pub pair_front : (ns : List (List ℕ)) (xs w : List ℕ) (m : ℕ) → m ≡ 2 * length ns → pair_of ns (take m xs) w ≡ pair_of ns xs w
-pair_front [] xs w m e = refl
-pair_front (n ∷ ns) xs w m e =
-    let f : m ≡ 2 + 2 * length ns = omega arith in
-    let t : take 2 (take m xs) ≡ take 2 xs = take-take 2 m xs (omega arith) in
-    let d : pair_of ns (drop 2 (take m xs)) w ≡ pair_of ns (drop 2 xs) w =
-    ap (λ (k : ℕ). pair_of ns (drop 2 (take k xs)) w) f ∙ ap (λ (ys : List ℕ). pair_of ns ys w) (drop-take 2 (2 * length ns) xs) ∙ pair_front ns (drop 2 xs) w (2 * length ns) refl in
-    ap (λ (ys : List ℕ). cond (same w n) ys (pair_of ns (drop 2 (take m xs)) w)) t ∙ ap (cond (same w n) (take 2 xs)) d
+pub spots_length : (u : ℕ) (ps : List Part) → length (spots_of u ps) ≡ 2 * length ps
+spots_length u [] = refl
+spots_length u (p ∷ ps) = omega (arith, spots_length (u + length (words p.shape)) ps)
 
+pub spot_length : (u : ℕ) (ps : List Part) (w : List ℕ) → length (spot u ps w) ≡ 2
+spot_length u [] w = refl
+spot_length u (p ∷ ps) w = go (same w p.name) (spot_length (u + length (words p.shape)) ps w)
+  where
+    go : (b : Bool) → length (spot (u + length (words p.shape)) ps w) ≡ 2 → length (cond b (u ∷ length (words p.shape) ∷ []) (spot (u + length (words p.shape)) ps w)) ≡ 2
+    go true e = refl
+    go false e = e
+
+-- the spot of a part, by its name
 pub spot_pair : (u : ℕ) (ps : List Part) (w : List ℕ) → pair_of (names_of ps) (spots_of u ps) w ≡ spot u ps w
 spot_pair u [] w = refl
 spot_pair u (p ∷ ps) w = ap (cond (same w p.name) (u ∷ length (words p.shape) ∷ [])) (spot_pair (u + length (words p.shape)) ps w)

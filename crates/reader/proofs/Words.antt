@@ -1,10 +1,12 @@
 -- Words, as the code tells them.
-use Rattle.std.proofs.Common.{◌≡◌, ℕ, zero, suc, ◌+◌, ◌<◌, Bool, true, false, cond, ◌&&◌, eqb, ltb, leb, ◌⊎◌, List, [], ◌∷◌, ◌++◌, length, IsUtf8, IsAscii, sym, refl, ◌∙◌, subst, inl, inr, arith, length-append}
+use Rattle.std.proofs.Common.{◌≡◌, ℕ, zero, suc, ◌+◌, ◌<◌, Bool, true, false, cond, ◌&&◌, eqb, ltb, leb, ◌⊎◌, List, [], ◌∷◌, ◌++◌, length, IsUtf8, IsAscii, sym, refl, ap, ◌∙◌, subst, inl, inr, arith, length-append}
 use Rattle.std.proofs.Math.Bool.{and-true}
 use Rattle.std.proofs.lemmas.Str.{IsUtf8-from_ascii}
 use Rattle.std.proofs.lemmas.Bool.{both_ways, and_parts, and_from, or_cases, or_from, leb-true, leb-false, not_from_false, cases_Bool, le-leb, lt-leb, cond-true, cond-false}
+use denote.Enum.Bare.{sameb}
+use Rattle.grammar.specs.contracts.types.Kind.{the_type}
 use Rattle.grammar.specs.declared.types.Kind.{Kind}
-use Rattle.grammar.specs.declared.types.Kind.TheVariants.{NameWord}
+use Rattle.grammar.specs.declared.types.Kind.TheVariants.{HalfWord, BoxWord, TwoWord, MoveWord, OneWord, NameWord, NoWord}
 use Rattle.grammar.specs.Grammar.{is_word, is_name, alnum, letter, digit, all, same, one_of, reserved}
 use Rattle.grammar.specs.declared.types.Sep.{Sep}
 use mathlib.Core.Option.{Option, none, some}
@@ -94,6 +96,20 @@ kind_no_name w h = go (cases_Bool (is_name w))
     go : (is_name w ≡ true) ⊎ (is_name w ≡ false) → is_name w ≡ false
     go (inl e) = absurd (h (kind_name w e))
     go (inr e) = e
+
+-- what `==` says of a word's kind
+pub name_by_kind : (w : List ℕ) → sameb the_type (kind_of w) NameWord ≡ is_name w
+name_by_kind w = go (kind_of w) (is_name w) refl (tells w) (kind_name w)
+  where
+    go : (k : Kind) (b : Bool) → is_name w ≡ b → Tells k w → (is_name w ≡ true → k ≡ NameWord) → sameb the_type k NameWord ≡ b
+    go k true e t f = ap (λ (j : Kind). sameb the_type j NameWord) (f e)
+    go NameWord false e t f = absurd (both_ways (is_name w) e t)
+    go HalfWord false e t f = refl
+    go BoxWord false e t f = refl
+    go TwoWord false e t f = refl
+    go MoveWord false e t f = refl
+    go OneWord false e t f = refl
+    go NoWord false e t f = refl
 
 -- the machine's step at the end of a word
 pub name_ends : (c : Sep) (w : List ℕ) (b : ℕ) (s : List Sym) → is_word (w ++ b ∷ []) ≡ false → (is_name w && eqb b (byte c)) ≡ true → step (name c w ∷ s) b ≡ some s

@@ -1,12 +1,11 @@
 -- How a text that is taken lies in words: the steps of its parts, one part behind the other, and its questions, six words each.
-use Rattle.std.specs.Prelude.{◌≡◌, ℕ, ◌+◌, ◌*◌, ◌<◌, ◌≤◌, true, cond, List, [], ◌∷◌, ◌++◌, length, take, slice_index, unsigned_abs}
+use Rattle.std.specs.Prelude.{◌≡◌, ℕ, ◌+◌, ◌*◌, true, cond, List, [], ◌∷◌, ◌++◌, length, unsigned_abs}
 use Rattle.std.specs.Int.{w64, cast_unsigned}
 use Rattle.solid.specs.Steps.{words}
-use Rattle.grammar.specs.Grammar.{Name, Expr, Line, part, place, same_as, meet, model, same, print}
+use Rattle.grammar.specs.Grammar.{Name, Expr, Line, part, place, same_as, meet, model, same}
 use Rattle.grammar.specs.Tokens.{code_of}
 use Rattle.grammar.specs.Meaning.{Part, says, questions, fine}
-use Rattle.reader.specs.declared.types.Counts.{Counts}
-use Rattle.reader.specs.Names.{words_at}
+use Rattle.reader.specs.declared.types.Layout.{Layout}
 
 -- the parts after one more
 abbrev pub with_part : List Part → Name → Expr → List Part
@@ -44,20 +43,15 @@ asked_words ps (same_as n m ∷ ls) = asked_words ps ls
 asked_words ps (meet n m ∷ ls) = asked_words ps ls
 asked_words ps (model n ∷ ls) = asked_words ps ls
 
--- the words of a text that is taken, and the names of its parts, as they lie in it
-pub record Taken (text tokens names : List ℕ) : Type 0 where
+-- the words of lines that are taken, and the names of their parts
+pub record Taken (words names : List (List ℕ)) : Type 0 where
   pub lines : List Line
-  pub is : text ≡ print lines
   pub sound : fine [] lines ≡ true
-  pub read : words_at text tokens ≡ code_of lines
-  pub inside : (k : ℕ) → k < length tokens → slice_index tokens k < length text
-  pub named : words_at text names ≡ part_names lines
-  pub names_inside : (k : ℕ) → k < length names → slice_index names k < length text
+  pub read : words ≡ code_of lines
+  pub named : names ≡ part_names lines
 
 -- the words hold what the lines say
-pub record Laid (ls : List Line) (n : Counts) (steps asked : List ℕ) : Type 0 where
-  pub steps_are : take n.used steps ≡ part_steps [] ls
-  pub used_fits : n.used ≤ length steps
-  pub asked_are : take (6 * n.asked) asked ≡ asked_words [] ls
-  pub asked_fits : 6 * n.asked ≤ length asked
-  pub count : n.asked ≡ length (questions [] ls)
+pub record Laid (ls : List Line) (l : Layout) : Type 0 where
+  pub steps_are : l.steps.now ≡ part_steps [] ls
+  pub asked_are : l.asked.now ≡ asked_words [] ls
+  pub count : length l.asked.now ≡ 6 * length (questions [] ls)

@@ -1,56 +1,61 @@
 -- What the reader says of a text.
-use Rattle.std.specs.Prelude.{◌≡◌, ℕ, ◌<◌, ◌≤◌, true, false, List, [], ◌∷◌, length, take, Some, None, Ok, Err, Option, Result, slice_index, slice_range}
+use Rattle.std.specs.Prelude.{◌≡◌, ℕ, ⊤, ◌+◌, ◌*◌, ◌≤◌, true, false, List, [], ◌∷◌, length, take, Ok, Err, Result, slice_range}
 use Rattle.grammar.specs.Grammar.{Text, Refused, Line, print}
 use Rattle.grammar.specs.Meaning.{fine}
 use Rattle.grammar.specs.Faults.{Fault, word_faults, looked, most_bytes, Reaches, FirstFault}
 use Rattle.grammar.specs.Tokens.{starts_from}
 use Rattle.reader.specs.Names.{words_at}
-use Rattle.reader.specs.declared.types.Verdict.{Verdict}
-use Rattle.reader.specs.declared.types.Verdict.TheVariants.{Whole, Bad}
-use Rattle.reader.specs.declared.types.Reach.{Reach}
-use Rattle.reader.specs.declared.types.Found.{Found}
+use Rattle.reader.specs.declared.word_list.Found.{Found}
 use Rattle.reader.specs.declared.types.Refusal.{Refusal}
-use Rattle.reader.specs.declared.types.Counts.{Counts}
+use Rattle.reader.specs.declared.types.Layout.{Layout}
+use Rattle.reader.specs.declared.types.Room.{Room}
 use Rattle.reader.specs.Layout.{Taken, Laid}
 use Rattle.reader.specs.Scan.{told, named_in}
 
-abbrev pub Says : Verdict → List ℕ → Type 0
-Says Whole bs = Text bs
-Says (Bad p) bs = Refused bs p
+-- what the grammar says of bytes: they are a text, or none goes on so at this byte
+abbrev pub Says : Result ⊤ ℕ → List ℕ → Type 0
+Says (Ok _) bs = Text bs
+Says (Err p) bs = Refused bs p
 
 -- the bytes from s to i
 abbrev pub between : ℕ → ℕ → List ℕ → List ℕ
 between s i bs = slice_range bs s i
 
 -- how far the bytes that are read begin a text, and whether they are one
-pub record Reached (r : Reach) (bs : List ℕ) : Type 0 where
-  pub inside : r.at ≤ length bs
-  pub reaches : Reaches (take most_bytes bs) r.at
-  pub text : r.whole ≡ true → Text (take most_bytes bs)
-  pub refused : r.whole ≡ false → Refused (take most_bytes bs) r.at
+pub record Reached (r : Result ⊤ ℕ) (at : ℕ) (bs : List ℕ) : Type 0 where
+  pub inside : at ≤ length bs
+  pub reaches : Reaches (take most_bytes bs) at
+  pub said : Says r (take most_bytes bs)
 
--- the words of bytes, as far as they are read: their first fault, or none
-abbrev pub Words : Result Found Refusal → ℕ → List ℕ → List ℕ → List ℕ → Type 0
-Words (Ok n) read bs tokens names =
+-- the words of bytes, as far as they are read: their first fault, or none, and then the words and the names of the parts
+abbrev pub Words : Result Found Refusal → ℕ → List ℕ → Type 0
+Words (Ok f) read bs =
     (word_faults read bs ≡ [])
-    × (n.words ≤ length bs)
-    × (take n.words tokens ≡ starts_from false 0 bs)
-    × (n.parts ≤ length names)
-    × (words_at bs (take n.parts names) ≡ named_in [] (looked read bs))
-    × ((k : ℕ) → k < n.parts → slice_index names k < length bs)
-Words (Err r) read bs tokens names = (rest : List Fault) × (word_faults read bs ≡ told r ∷ rest)
+    × (f.tokens ≡ words_at bs (starts_from false 0 bs))
+    × (f.names ≡ named_in [] (looked read bs))
+    × (length f.tokens ≤ length bs)
+Words (Err r) read bs = (rest : List Fault) × (word_faults read bs ≡ told r ∷ rest)
 
--- the fault of bytes that have none in their words
-abbrev pub Last : Option Refusal → List ℕ → Type 0
-Last (Some r) bs = FirstFault bs (told r)
-Last None bs = Text bs × (length bs ≤ most_bytes)
+-- what is wrong with bytes whose words have no fault, if anything is
+abbrev pub Last : Result ⊤ Refusal → List ℕ → Type 0
+Last (Err r) bs = FirstFault bs (told r)
+Last (Ok _) bs = Text bs × (length bs ≤ most_bytes)
 
 -- a text is taken, or its first fault is told
-abbrev pub Examined : Result Found Refusal → List ℕ → List ℕ → List ℕ → Type 0
-Examined (Ok n) bs tokens names = Taken bs (take n.words tokens) (take n.parts names) × (n.words ≤ length bs) × (n.parts ≤ length names)
-Examined (Err r) bs tokens names = FirstFault bs (told r)
+abbrev pub Examined : Result Found Refusal → List ℕ → Type 0
+Examined (Ok f) bs = (t : Taken f.tokens f.names) × (bs ≡ print t.lines) × (length f.tokens ≤ length bs)
+Examined (Err r) bs = FirstFault bs (told r)
 
 -- a text that is taken lies in words; or its first fault is told
-abbrev pub Read : Result Counts Refusal → List ℕ → List ℕ → List ℕ → Type 0
-Read (Ok n) bs steps asked = (ls : List Line) × (bs ≡ print ls) × (fine [] ls ≡ true) × Laid ls n steps asked
-Read (Err r) bs steps asked = FirstFault bs (told r)
+abbrev pub Read : Result Layout Refusal → List ℕ → Type 0
+Read (Ok l) bs = (ls : List Line) × (bs ≡ print ls) × (fine [] ls ≡ true) × Laid ls l
+Read (Err r) bs = FirstFault bs (told r)
+
+-- lent words that are enough for a text
+pub record Enough (text : List ℕ) (room : Room) : Type 0 where
+  pub stack : 2 * length text + 15 ≤ length room.stack.now
+  pub tokens : length text ≤ length room.tokens.now
+  pub names : length text ≤ length room.names.now
+  pub spots : length text ≤ length room.spots.now
+  pub steps : 2 * length text ≤ length room.steps.now
+  pub asked : length text ≤ length room.asked.now

@@ -1,14 +1,13 @@
 -- The words of a text, one after the other: what is expected, and what was found.
-use Rattle.std.specs.Prelude.{◌≡◌, ℕ, ◌<◌, ◌≤◌, cond, List, [], ◌∷◌, ◌++◌, length, take, replicate, Ok, Err, codes, Result, slice_index}
+use Rattle.std.specs.Prelude.{◌≡◌, ℕ, cond, List, [], ◌∷◌, ◌++◌, replicate, Some, None, Ok, Err, codes, Option, Result}
+use Rattle.std.specs.Borrow.{Bor}
 use Rattle.grammar.specs.Grammar.{same}
 use Rattle.grammar.specs.Faults.{Fault, fault, Token, Role, new_name, used_name, shape, measure, scale, of_part, of_place, of_box, scan, looked, word_faults}
 use Rattle.reader.specs.declared.types.Refusal.{Refusal}
 use Rattle.reader.specs.declared.types.Refusal.TheVariants.{Grammar, Name, Limit, Range}
 use Rattle.reader.specs.declared.types.Expect.{Expect}
 use Rattle.reader.specs.declared.types.Expect.TheVariants.{AtLine, AtNewName, AtShape, InBox, AtUsedName, InPlace}
-use Rattle.reader.specs.declared.types.Look.{Look}
-use Rattle.reader.specs.declared.types.Look.TheVariants.{Wrong, Next, Done}
-use Rattle.reader.specs.Names.{words_at}
+use Rattle.reader.specs.Names.{words_at, InText}
 
 -- a refusal's number and place
 abbrev pub told : Refusal → Fault
@@ -45,19 +44,15 @@ named_in (shape ∷ rs) (t ∷ ts) = cond (same t.word (codes "box")) (named_in 
 named_in (measure ∷ rs) (t ∷ ts) = named_in rs ts
 named_in (scale ∷ rs) (t ∷ ts) = named_in rs ts
 
--- what a word does, whatever stands behind it
-abbrev pub Looked : Look → Expect → List (List ℕ) → Token → Type 0
-Looked (Wrong r) e names t = (ts : List Token) → (rest : List Fault) × (scan names (expected e) (t ∷ ts) ≡ told r ∷ rest)
-Looked (Next f) e names t =
+-- what a word is found to be, whatever stands behind it: wrong; or right, and then what is expected behind it, if that is looked at
+abbrev pub Looked : Result (Option Expect) Refusal → Expect → List (List ℕ) → Token → Type 0
+Looked (Err r) e names t = (ts : List Token) → (rest : List Fault) × (scan names (expected e) (t ∷ ts) ≡ told r ∷ rest)
+Looked (Ok (Some f)) e names t =
     (ts : List Token) →
     (scan names (expected e) (t ∷ ts) ≡ scan (with_name e names t.word) (expected f) ts) × (named_in (expected e) (t ∷ ts) ≡ with_name e [] t.word ++ named_in (expected f) ts)
-Looked Done e names t = (ts : List Token) → (scan names (expected e) (t ∷ ts) ≡ []) × (named_in (expected e) (t ∷ ts) ≡ [])
+Looked (Ok None) e names t = (ts : List Token) → (scan names (expected e) (t ∷ ts) ≡ []) × (named_in (expected e) (t ∷ ts) ≡ [])
 
--- what the words of bytes are found to be, where so many of them count as read: the first fault; or none, and where the names of the parts begin
-abbrev pub Checked : Result ℕ Refusal → ℕ → List ℕ → List ℕ → Type 0
-Checked (Ok n) read bs names =
-    (word_faults read bs ≡ [])
-    × (n ≤ length names)
-    × (words_at bs (take n names) ≡ named_in [] (looked read bs))
-    × ((k : ℕ) → k < n → slice_index names k < length bs)
-Checked (Err r) read bs names = (rest : List Fault) × (word_faults read bs ≡ told r ∷ rest)
+-- what the words of bytes are found to be, where so many of them count as read: the first fault; or none, and then where the names of the parts begin
+abbrev pub Checked : Result (Bor (List ℕ)) Refusal → ℕ → List ℕ → Type 0
+Checked (Ok ps) read bs = (word_faults read bs ≡ []) × (words_at bs ps.now ≡ named_in [] (looked read bs)) × InText bs ps.now
+Checked (Err r) read bs = (rest : List Fault) × (word_faults read bs ≡ told r ∷ rest)

@@ -1,19 +1,19 @@
 //! A text that is taken, laid into words: the steps of its parts, and its questions.
 
-ghost use Rattle.std.specs.Prelude.{◌≡◌, ℕ, ◌+◌, ◌*◌, ◌<◌, ◌≤◌, List, [], ◌∷◌, ◌++◌, length, take, drop, ℤ, codes, slice_index};
+ghost use Rattle.std.specs.Prelude.{◌≡◌, ◌+◌, ◌*◌, ◌/◌, ◌<◌, ◌≤◌, [], ◌∷◌, ◌++◌, length, take, drop, ℤ};
 ghost use Rattle.arith.specs.Bounds.{Short};
 ghost use Rattle.plane.specs.Limits.{FitsPlane};
 ghost use Rattle.solid.specs.Shapes.{plane, box};
 ghost use Rattle.solid.specs.Steps.{word, words};
-ghost use Rattle.grammar.specs.Grammar.{signed, same, Line, print};
-ghost use Rattle.grammar.specs.Tokens.{tok_at};
+ghost use Rattle.grammar.specs.Grammar.{signed};
 ghost use Rattle.grammar.specs.Values.{number_limit};
 ghost use Rattle.reader.specs.Layout.{Taken, Laid};
 ghost use Rattle.reader.specs.Lines.{PartAt, steps_at, pair_of, PlaceAt, question_at};
-ghost use Rattle.reader.specs.Names.{words_at};
 
-use super::tokens::{find_name, number_at, token_at};
-use super::types::Counts;
+use super::tokens::number_of;
+use super::types::Layout;
+use super::word_list::{Found, WordList};
+use lent::LentList;
 use plane::types::Plane;
 use solid::steps::word_of;
 use solid::types::Step;
@@ -26,9 +26,6 @@ const PLACE_TOKENS: usize = 6;
 
 /// How many steps a box has.
 const BOX_STEPS: usize = 11;
-
-/// How many words a question has.
-const QUESTION_WORDS: usize = 6;
 
 /// The word of a half-space.
 fn half_word(a: i64, b: i64, c: i64, d: i64) -> u64
@@ -60,39 +57,26 @@ fn box_words(x0: i64, x1: i64, y0: i64, y1: i64, z0: i64, z1: i64) -> [u64; BOX_
     ]
 }
 
-/// The number that begins at a byte.
-fn number(text: &[u8], from: u64) -> i64
-    requires { from < length text.now }
-    ensures { (z : ℤ) → tok_at (drop from text.now) ≡ signed z → Short z number_limit → result ≡ z }
+/// The number that is written; 0 where none is.
+fn number(word: &[u8]) -> i64
+    ensures { (z : ℤ) → word.now ≡ signed z → Short z number_limit → result ≡ z }
 {
-    match number_at(text, from as usize) {
-        Some(v) => v,
-        None => 0,
-    }
+    number_of(word).unwrap_or(0)
 }
 
 /// The steps of the box of a part's line.
-fn box_of(text: &[u8], line: &[u64]) -> [u64; BOX_STEPS]
-    requires long { 9 ≤ length line.now }
-    requires inside { (k : ℕ) → k < length line.now → slice_index line.now k < length text.now }
-    requires taken { PartAt text.now line.now }
-    ensures { (p : PartAt text.now line.now) → result ≡ steps_at p }
+fn box_of(line: &WordList<'_>) -> [u64; BOX_STEPS]
+    requires { PartAt line.now }
+    ensures { (p : PartAt line.now) → result ≡ steps_at p }
 {
-    let x0 = number(text, line[3]);
-    let x1 = number(text, line[4]);
-    let y0 = number(text, line[5]);
-    let y1 = number(text, line[6]);
-    let z0 = number(text, line[7]);
-    let z1 = number(text, line[8]);
-    box_words(x0, x1, y0, y1, z0, z1)
-}
-
-/// Whether the word that begins at a byte begins a part's line.
-fn is_part(text: &[u8], from: u64) -> bool
-    requires { from < length text.now }
-    ensures { result ≡ same (codes "part") (tok_at (drop from text.now)) }
-{
-    token_at(text, from as usize) == b"part".as_slice()
+    box_words(
+        number(line.at(3)),
+        number(line.at(4)),
+        number(line.at(5)),
+        number(line.at(6)),
+        number(line.at(7)),
+        number(line.at(8)),
+    )
 }
 
 /// The i-th pair of words.
@@ -103,105 +87,100 @@ fn pair_at(pairs: &[u64], i: usize) -> [u64; 2]
     [pairs[2 * i], pairs[2 * i + 1]]
 }
 
-/// The two words that belong to a name.
-fn spot_of(text: &[u8], names: &[u64], spots: &[u64], name: &[u8]) -> [u64; 2]
-    requires names { (k : ℕ) → k < length names.now → slice_index names.now k ≤ length text.now }
-    requires spots { 2 * length names.now ≤ length spots.now }
-    ensures { result ≡ pair_of (words_at text.now names.now) spots.now name.now }
+/// The two words that belong to a name, where each of some names has two; zeros where it is none of them.
+fn spot_of(names: &WordList<'_>, spots: &[u64], name: &[u8]) -> [u64; 2]
+    requires { 2 * length names.now ≤ length spots.now }
+    ensures { result ≡ pair_of names.now spots.now name.now }
 {
-    match find_name(text, names, name) {
+    match names.find(name) {
         Some(i) => pair_at(spots, i),
         None => [0, 0],
     }
 }
 
-/// A part's line: writes its steps behind the first `used`, and where they are behind the spots of the parts before it.
-fn part_line(
-    text: &[u8],
-    line: &[u64],
-    parts: usize,
-    used: usize,
-    spots: &mut [u64],
-    steps: &mut [u64],
-)
-    requires long { 9 ≤ length line.now }
-    requires inside { (k : ℕ) → k < length line.now → slice_index line.now k < length text.now }
-    requires taken { PartAt text.now line.now }
-    requires spots_room { 2 * parts + 2 ≤ length spots.old }
-    requires steps_room { used + 11 ≤ length steps.old }
-    ensures spots { take (2 * parts + 2) spots.new ≡ take (2 * parts) spots.old ++ used ∷ 11 ∷ [] }
-    ensures steps { (p : PartAt text.now line.now) → take (used + 11) steps.new ≡ take used steps.old ++ steps_at p }
-{
-    let words = box_of(text, line);
-    steps[used..used + BOX_STEPS].copy_from_slice(&words);
-    spots[2 * parts] = used as u64;
-    spots[2 * parts + 1] = BOX_STEPS as u64;
+/// Lines, as they are laid into words: where the steps of each part begin and how many they are, the steps of all
+/// parts, and the questions.
+#[derive(Drop)]
+struct Lines<'w> {
+    spots: LentList<'w, u64>,
+    steps: LentList<'w, u64>,
+    asked: LentList<'w, u64>,
 }
 
-/// A place's line: writes its question behind the first `count`.
-fn place_line(
-    text: &[u8],
-    line: &[u64],
-    names: &[u64],
-    spots: &[u64],
-    count: usize,
-    asked: &mut [u64],
-)
-    requires long { 6 ≤ length line.now }
-    requires inside { (k : ℕ) → k < length line.now → slice_index line.now k < length text.now }
-    requires names { (k : ℕ) → k < length names.now → slice_index names.now k ≤ length text.now }
-    requires spots { 2 * length names.now ≤ length spots.now }
-    requires asked_room { 6 * count + 6 ≤ length asked.old }
-    ensures { (p : PlaceAt text.now line.now) → take (6 * count + 6) asked.new ≡ take (6 * count) asked.old ++ question_at (words_at text.now names.now) spots.now p }
-{
-    let spot = spot_of(text, names, spots, token_at(text, line[1] as usize));
-    let x = number(text, line[2]);
-    let y = number(text, line[3]);
-    let z = number(text, line[4]);
-    let w = number(text, line[5]);
-    let question = [
-        spot[0],
-        spot[1],
-        x.cast_unsigned(),
-        y.cast_unsigned(),
-        z.cast_unsigned(),
-        w.cast_unsigned(),
-    ];
-    let start = QUESTION_WORDS * count;
-    asked[start..start + QUESTION_WORDS].copy_from_slice(&question);
+impl<'w> Lines<'w> {
+    /// Of how many parts the lines are laid.
+    fn parts(&self) -> usize
+        ensures { result ≡ length self.now.spots.items / 2 }
+    {
+        self.spots.len() / 2
+    }
+
+    /// Lays a part's line.
+    fn part(&mut self, line: &WordList<'_>)
+        requires taken { PartAt line.now }
+        requires spots_room { length self.old.spots.items + 2 ≤ self.old.spots.room }
+        requires steps_room { length self.old.steps.items + 11 ≤ self.old.steps.room }
+        ensures spots { self.new.spots.items ≡ self.old.spots.items ++ length self.old.steps.items ∷ 11 ∷ [] }
+        ensures steps { (p : PartAt line.now) → self.new.steps.items ≡ self.old.steps.items ++ steps_at p }
+        ensures rooms { (self.new.spots.room ≡ self.old.spots.room) × (self.new.steps.room ≡ self.old.steps.room) }
+        ensures asked { self.new.asked ≡ self.old.asked }
+    {
+        self.spots.push(self.steps.len() as u64);
+        self.spots.push(BOX_STEPS as u64);
+        self.steps.extend(&box_of(line));
+    }
+
+    /// Lays the line of a question about a place, behind parts of some names.
+    fn place(&mut self, line: &WordList<'_>, names: &WordList<'_>)
+        requires taken { PlaceAt line.now }
+        requires spots { 2 * length names.now ≤ length self.old.spots.items }
+        requires room { length self.old.asked.items + 6 ≤ self.old.asked.room }
+        ensures asked { (p : PlaceAt line.now) → self.new.asked.items ≡ self.old.asked.items ++ question_at names.now self.old.spots.items p }
+        ensures room { self.new.asked.room ≡ self.old.asked.room }
+        ensures others { (self.new.spots ≡ self.old.spots) × (self.new.steps ≡ self.old.steps) }
+    {
+        let [from, count] = spot_of(names, self.spots.as_slice(), line.at(1));
+        self.asked.extend(&[
+            from,
+            count,
+            number(line.at(2)).cast_unsigned(),
+            number(line.at(3)).cast_unsigned(),
+            number(line.at(4)).cast_unsigned(),
+            number(line.at(5)).cast_unsigned(),
+        ]);
+    }
 }
 
 /// Lays a text that is taken into words: the steps of its parts, and its questions.
-pub(crate) fn build(
-    text: &[u8],
-    tokens: &[u64],
-    names: &[u64],
-    spots: &mut [u64],
-    steps: &mut [u64],
-    asked: &mut [u64],
-) -> Counts
-    requires taken { Taken text.now tokens.now names.now }
-    requires spots_room { length tokens.now ≤ length spots.old }
-    requires steps_room { 2 * length tokens.now ≤ length steps.old }
-    requires asked_room { length tokens.now ≤ length asked.old }
-    ensures { (ls : List Line) → text.now ≡ print ls → Laid ls result steps.new asked.new }
+pub(crate) fn build<'w>(
+    found: &Found<'_>,
+    spots: &'w mut [u64],
+    steps: &'w mut [u64],
+    asked: &'w mut [u64],
+) -> Layout<'w>
+    requires taken { Taken found.now.tokens found.now.names }
+    requires spots_room { length found.now.tokens ≤ length spots.old }
+    requires steps_room { 2 * length found.now.tokens ≤ length steps.old }
+    requires asked_room { length found.now.tokens ≤ length asked.old }
+    ensures { (t : Taken found.now.tokens found.now.names) → Laid t.lines result }
 {
-    let mut at = 0;
-    let mut parts = 0;
-    let mut used = 0;
-    let mut count = 0;
-    while at < tokens.len() {
-        let line = &tokens[at..];
-        if is_part(text, line[0]) {
-            part_line(text, line, parts, used, spots, steps);
-            at += PART_TOKENS;
-            parts += 1;
-            used += BOX_STEPS;
+    let mut lines = Lines {
+        spots: LentList::new(spots),
+        steps: LentList::new(steps),
+        asked: LentList::new(asked),
+    };
+    let mut rest = found.tokens.behind(0);
+    while rest.len() > 0 {
+        if rest.at(0) == b"part".as_slice() {
+            lines.part(&rest);
+            rest = rest.behind(PART_TOKENS);
         } else {
-            place_line(text, line, &names[0..parts], spots, count, asked);
-            at += PLACE_TOKENS;
-            count += 1;
+            lines.place(&rest, &found.names.first(lines.parts()));
+            rest = rest.behind(PLACE_TOKENS);
         }
     }
-    Counts { used, asked: count }
+    Layout {
+        steps: lines.steps.into_slice(),
+        asked: lines.asked.into_slice(),
+    }
 }

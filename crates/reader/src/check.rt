@@ -6,39 +6,37 @@ ghost use Rattle.reader.specs.Scan.{Checked};
 
 use super::looks::look;
 use super::tokens::token_at;
-use super::types::{Expect, Look, Refusal};
+use super::types::{Expect, Refusal};
+use super::word_list::WordList;
+use lent::LentList;
 
-/// The first fault in the words of bytes; or none, and then how many parts there are, and in `names` where
-/// their names begin. `tokens` are the first bytes of all words; so many bytes count as read.
-pub(crate) fn check(
+/// The first fault in the words of bytes; or none, and then where the names of the parts begin. `tokens` are the
+/// first bytes of all words; so many bytes count as read.
+pub(crate) fn check<'w>(
     text: &[u8],
     tokens: &[u64],
-    names: &mut [u64],
+    room: &'w mut [u64],
     read: usize,
-) -> Result<usize, Refusal>
+) -> Result<&'w [u64], Refusal>
     requires tokens { tokens.now ≡ starts_from false 0 text.now }
-    requires room { length tokens.now ≤ length names.old }
-    ensures { Checked result read text.now names.new }
+    requires room { length tokens.now ≤ length room.old }
+    ensures { Checked result read text.now }
 {
+    let mut names = LentList::new(room);
     let mut expect = Expect::AtLine;
-    let mut parts = 0;
-    for k in 0..tokens.len() {
-        let at = tokens[k] as usize;
+    for start in tokens {
+        let at = *start as usize;
         let word = token_at(text, at);
-        if at > read || read - at < word.len() {
+        if at + word.len() > read {
             continue;
         }
-        match look(text, &names[0..parts], expect, at, word) {
-            Look::Wrong(r) => return Err(r),
-            Look::Done => return Ok(parts),
-            Look::Next(next) => {
-                if let Expect::AtNewName = expect {
-                    names[parts] = at as u64;
-                    parts += 1;
-                }
-                expect = next;
-            }
+        let Some(next) = look(&WordList::new(text, names.as_slice()), expect, at, word)? else {
+            return Ok(names.into_slice());
+        };
+        if let Expect::AtNewName = expect {
+            names.push(*start);
         }
+        expect = next;
     }
-    Ok(parts)
+    Ok(names.into_slice())
 }

@@ -1,34 +1,30 @@
 //! One word of a text, as it stands: whether it is right where it is.
 
-ghost use Rattle.std.specs.Prelude.{◌≡◌, ℕ, ◌+◌, ◌<◌, ◌≤◌, List, length, slice_index};
-ghost use Rattle.grammar.specs.Faults.{token, amount, beyond, no_scale};
-ghost use Rattle.grammar.specs.Grammar.{same, one_of, is_word, is_name};
-ghost use Rattle.grammar.specs.Values.{Told};
-ghost use Rattle.reader.specs.Names.{words_at};
+ghost use Rattle.std.specs.Prelude.{◌≡◌, ℕ, true, false, not, ◌&&◌, List, length, Some, Ok, Err, if◌then◌else◌};
+ghost use Rattle.grammar.specs.Faults.{token, beyond, no_scale};
+ghost use Rattle.grammar.specs.Grammar.{is_word, is_name, one_of};
 ghost use Rattle.reader.specs.Scan.{Looked};
 
 use super::spelling::{is_alnum, is_letter, word_kind};
-use super::tokens::{find_name, magnitude};
-use super::types::{Expect, Look, Refusal};
+use super::tokens::amount_of;
+use super::types::{Expect, Refusal};
+use super::word_list::WordList;
 use grammar::types::Kind;
 
-/// Whether two words are the same.
-fn same_word(a: &[u8], b: &[u8]) -> bool
-    ensures { result ≡ same a.now b.now }
-{
-    a == b
-}
+/// How many parts a text has at most.
+const MOST_PARTS: usize = 100;
 
-/// The size of a number, if it is in range.
-fn amount_of(word: &[u8]) -> Option<u64>
-    ensures { Told result (amount word.now) }
-{
-    if word.len() > 0 && word[0] == b'-' {
-        magnitude(word, 1)
-    } else {
-        magnitude(word, 0)
-    }
-}
+/// The largest w of a place.
+const SCALE_LIMIT: u64 = 4096;
+
+/// How many numbers a box has.
+const BOX_NUMBERS: usize = 6;
+
+/// How many numbers a place has before its w.
+const COORDINATES: usize = 3;
+
+/// Words that begin a line, and are not taken yet.
+const LATER: [&[u8]; 3] = [b"same", b"meet", b"model"];
 
 /// Whether a number is out of range.
 fn is_beyond(word: &[u8]) -> bool
@@ -41,11 +37,11 @@ fn is_beyond(word: &[u8]) -> bool
 fn is_no_scale(word: &[u8]) -> bool
     ensures { result ≡ no_scale word.now }
 {
-    if word.len() > 0 && word[0] == b'-' {
-        return word.len() > 1;
+    if let Some(digits) = word.strip_prefix(b"-") {
+        return !digits.is_empty();
     }
     match amount_of(word) {
-        Some(n) => n == 0 || n > 4096,
+        Some(size) => size == 0 || size > SCALE_LIMIT,
         None => true,
     }
 }
@@ -54,134 +50,92 @@ fn is_no_scale(word: &[u8]) -> bool
 fn is_word(word: &[u8]) -> bool
     ensures { result ≡ is_word word.now }
 {
-    if word.len() == 0 || word.len() > 12 || !is_letter(word[0]) {
+    let Some((first, others)) = word.split_first() else {
         return false;
-    }
-    for b in word {
-        if !is_alnum(*b) {
-            return false;
-        }
-    }
-    true
+    };
+    is_letter(*first) && others.len() < 12 && others.iter().all(|b| is_alnum(*b))
 }
 
 /// Whether the bytes are a name.
 fn is_name(word: &[u8]) -> bool
     ensures { result ≡ is_name word.now }
 {
-    if !is_word(word) {
-        return false;
-    }
-    match word_kind(word) {
-        Kind::NameWord => true,
-        _ => false,
-    }
+    is_word(word) && word_kind(word) == Kind::NameWord
+}
+
+/// The refusal where a word is wrong, else what is expected behind it.
+fn next_unless(wrong: bool, why: Refusal, next: Expect) -> Result<Option<Expect>, Refusal>
+    ensures { result ≡ (if wrong then Err why else Ok (Some next)) }
+{
+    if wrong { Err(why) } else { Ok(Some(next)) }
 }
 
 /// A word where a line begins, behind so many parts.
-fn look_line(parts: usize, at: usize, word: &[u8]) -> Look
+fn look_line(parts: usize, at: usize, word: &[u8]) -> Result<Option<Expect>, Refusal>
     ensures { (names : List (List ℕ)) → length names ≡ parts → Looked result Expect.AtLine names (token at word.now) }
 {
-    if same_word(word, b"part") {
-        if parts >= 100 {
-            return Look::Wrong(Refusal::Limit(at));
-        }
-        return Look::Next(Expect::AtNewName);
+    if word == b"part".as_slice() {
+        return next_unless(parts >= MOST_PARTS, Refusal::Limit(at), Expect::AtNewName);
     }
-    if same_word(word, b"place") {
-        return Look::Next(Expect::AtUsedName);
+    if word == b"place".as_slice() {
+        return Ok(Some(Expect::AtUsedName));
     }
-    if same_word(word, b"same") || same_word(word, b"meet") || same_word(word, b"model") {
-        return Look::Wrong(Refusal::Grammar(at));
+    if LATER.contains(&word) {
+        return Err(Refusal::Grammar(at));
     }
-    Look::Done
+    Ok(None)
 }
 
-/// Whether a word is among some names.
-fn is_known(text: &[u8], names: &[u64], word: &[u8]) -> bool
-    requires { (k : ℕ) → k < length names.now → slice_index names.now k ≤ length text.now }
-    ensures { result ≡ one_of (words_at text.now names.now) word.now }
+/// Whether a name is there already that should be new, or isn't there that is used.
+fn is_misnamed(names: &WordList<'_>, used: bool, word: &[u8]) -> bool
+    ensures new { used ≡ false → result ≡ (is_name word.now && one_of names.now word.now) }
+    ensures used { used ≡ true → result ≡ (is_name word.now && not (one_of names.now word.now)) }
 {
-    find_name(text, names, word).is_some()
+    is_name(word) && names.has(word) != used
 }
 
-/// The name of a part: it is new.
-fn look_new_name(text: &[u8], names: &[u64], at: usize, word: &[u8]) -> Look
-    requires { (k : ℕ) → k < length names.now → slice_index names.now k ≤ length text.now }
-    ensures { Looked result Expect.AtNewName (words_at text.now names.now) (token at word.now) }
-{
-    if is_name(word) && is_known(text, names, word) {
-        return Look::Wrong(Refusal::Name(at));
-    }
-    Look::Next(Expect::AtShape)
-}
-
-/// The name of a part that is asked about: it is there.
-fn look_used_name(text: &[u8], names: &[u64], at: usize, word: &[u8]) -> Look
-    requires { (k : ℕ) → k < length names.now → slice_index names.now k ≤ length text.now }
-    ensures { Looked result Expect.AtUsedName (words_at text.now names.now) (token at word.now) }
-{
-    if is_name(word) && !is_known(text, names, word) {
-        return Look::Wrong(Refusal::Name(at));
-    }
-    Look::Next(Expect::InPlace(3))
-}
-
-/// The word that a shape begins with.
-fn look_shape(at: usize, word: &[u8]) -> Look
-    ensures { (names : List (List ℕ)) → Looked result Expect.AtShape names (token at word.now) }
-{
-    if same_word(word, b"box") {
-        Look::Next(Expect::InBox(6))
-    } else {
-        Look::Wrong(Refusal::Grammar(at))
-    }
-}
-
-/// One of the `left` numbers of a box.
-fn look_in_box(left: usize, at: usize, word: &[u8]) -> Look
-    requires { 0 < left }
-    ensures { (names : List (List ℕ)) → Looked result (Expect.InBox left) names (token at word.now) }
-{
-    if is_beyond(word) {
-        return Look::Wrong(Refusal::Range(at));
-    }
-    Look::Next(Expect::InBox(left - 1))
-}
-
-/// One of the numbers of a place: `left` are before its w.
-fn look_in_place(left: usize, at: usize, word: &[u8]) -> Look
-    ensures { (names : List (List ℕ)) → Looked result (Expect.InPlace left) names (token at word.now) }
-{
-    if left == 0 {
-        if is_no_scale(word) {
-            return Look::Wrong(Refusal::Range(at));
-        }
-        return Look::Next(Expect::AtLine);
-    }
-    if is_beyond(word) {
-        return Look::Wrong(Refusal::Range(at));
-    }
-    Look::Next(Expect::InPlace(left - 1))
-}
-
-/// A word where something is expected; `names` are the first bytes of the names of the parts so far.
-pub(crate) fn look(text: &[u8], names: &[u64], expect: Expect, at: usize, word: &[u8]) -> Look
-    requires { (k : ℕ) → k < length names.now → slice_index names.now k ≤ length text.now }
-    ensures { Looked result expect (words_at text.now names.now) (token at word.now) }
+/// A word where something is expected, behind parts of some names: it is wrong, or it is right, and then what is
+/// expected behind it, if that is looked at.
+pub(crate) fn look(
+    names: &WordList<'_>,
+    expect: Expect,
+    at: usize,
+    word: &[u8],
+) -> Result<Option<Expect>, Refusal>
+    ensures { Looked result expect names.now (token at word.now) }
 {
     match expect {
         Expect::AtLine => look_line(names.len(), at, word),
-        Expect::AtNewName => look_new_name(text, names, at, word),
-        Expect::AtShape => look_shape(at, word),
-        Expect::InBox(left) => {
-            if left == 0 {
-                look_line(names.len(), at, word)
-            } else {
-                look_in_box(left, at, word)
-            }
-        }
-        Expect::AtUsedName => look_used_name(text, names, at, word),
-        Expect::InPlace(left) => look_in_place(left, at, word),
+        Expect::InBox(left) if left == 0 => look_line(names.len(), at, word),
+        Expect::AtNewName => next_unless(
+            is_misnamed(names, false, word),
+            Refusal::Name(at),
+            Expect::AtShape,
+        ),
+        Expect::AtShape => next_unless(
+            word != b"box".as_slice(),
+            Refusal::Grammar(at),
+            Expect::InBox(BOX_NUMBERS),
+        ),
+        Expect::InBox(left) => next_unless(
+            is_beyond(word),
+            Refusal::Range(at),
+            Expect::InBox(left - 1),
+        ),
+        Expect::AtUsedName => next_unless(
+            is_misnamed(names, true, word),
+            Refusal::Name(at),
+            Expect::InPlace(COORDINATES),
+        ),
+        Expect::InPlace(left) if left == 0 => next_unless(
+            is_no_scale(word),
+            Refusal::Range(at),
+            Expect::AtLine,
+        ),
+        Expect::InPlace(left) => next_unless(
+            is_beyond(word),
+            Refusal::Range(at),
+            Expect::InPlace(left - 1),
+        ),
     }
 }

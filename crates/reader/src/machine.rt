@@ -7,7 +7,7 @@ ghost use Rattle.reader.specs.Stack.{lift, stack_of, Goes, Number};
 
 use super::spelling::{ends_name, goes_on, sep_byte, word_kind};
 use super::stack::{push, top};
-use super::types::{Verdict, Want, Went};
+use super::types::{Want, Went};
 use grammar::types::{Kind, Sep};
 
 /// A byte where a line may begin.
@@ -217,7 +217,7 @@ pub(crate) fn advance(stack: &mut [u64], depth: usize, word: &[u8], b: u8) -> We
 }
 
 /// Whether the bytes are a text, and if not, the first byte at which no text goes on so.
-pub(crate) fn read_text(text: &[u8], stack: &mut [u64]) -> Verdict
+pub(crate) fn read_text(text: &[u8], stack: &mut [u64]) -> Result<(), usize>
     requires { 2 * length text.now + 15 ≤ length stack.old }
     ensures { Says result text.now }
 {
@@ -225,7 +225,7 @@ pub(crate) fn read_text(text: &[u8], stack: &mut [u64]) -> Verdict
     let mut start = 0;
     for i in 0..text.len() {
         match advance(stack, depth, &text[start..i], text[i]) {
-            Went::Stuck => return Verdict::Bad(i),
+            Went::Stuck => return Err(i),
             Went::On(d) => {
                 depth = d;
                 start = i + 1;
@@ -233,9 +233,5 @@ pub(crate) fn read_text(text: &[u8], stack: &mut [u64]) -> Verdict
             Went::Word => {}
         }
     }
-    if depth == 0 {
-        Verdict::Whole
-    } else {
-        Verdict::Bad(text.len())
-    }
+    if depth == 0 { Ok(()) } else { Err(text.len()) }
 }

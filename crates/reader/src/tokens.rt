@@ -1,13 +1,18 @@
 //! The words and numbers of a text.
 
-ghost use Rattle.std.specs.Prelude.{◌≡◌, ℕ, ◌<◌, ◌≤◌, false, length, take, drop, ℤ, pos, neg_ℤ, slice_index};
-ghost use Rattle.grammar.specs.Grammar.{signed, digit};
+ghost use Rattle.std.specs.Prelude.{◌≡◌, ◌≤◌, false, length, drop, ℤ};
+ghost use Rattle.grammar.specs.Grammar.{signed};
 ghost use Rattle.grammar.specs.Tokens.{in_tok, starts_from, tok_at};
 ghost use Rattle.grammar.specs.Values.{read_on, Told, Value};
+ghost use Rattle.grammar.specs.Faults.{amount};
 ghost use Rattle.std.specs.List.{between};
-ghost use Rattle.reader.specs.Names.{words_at, rank};
 
 use super::spelling::is_alnum;
+use lent::LentList;
+use plane::types::OFFSET_LIMIT;
+
+/// The largest size of a number.
+const NUMBER_LIMIT: u64 = OFFSET_LIMIT;
 
 pub(crate) fn in_token(b: u8) -> bool
     ensures { result ≡ in_tok b }
@@ -15,95 +20,54 @@ pub(crate) fn in_token(b: u8) -> bool
     is_alnum(b) || b == b'-'
 }
 
-/// Writes where each word and number of the text begins, in their order; hands back how many there are.
-pub(crate) fn token_starts(text: &[u8], tokens: &mut [u64]) -> usize
-    requires { length text.now ≤ length tokens.old }
-    ensures most { result ≤ length text.now }
-    ensures are { take result tokens.new ≡ starts_from false 0 text.now }
+/// Where each word and number of the text begins, in their order.
+pub(crate) fn token_starts<'w>(text: &[u8], room: &'w mut [u64]) -> &'w [u64]
+    requires { length text.now ≤ length room.old }
+    ensures most { length result.now ≤ length text.now }
+    ensures are { result.now ≡ starts_from false 0 text.now }
 {
+    let mut starts = LentList::new(room);
     let mut inside = false;
-    let mut count = 0;
-    for i in 0..text.len() {
-        let token = in_token(text[i]);
+    for (i, b) in text.iter().enumerate() {
+        let token = in_token(*b);
         if token && !inside {
-            tokens[count] = i as u64;
-            count += 1;
+            starts.push(i as u64);
         }
         inside = token;
     }
-    count
+    starts.into_slice()
 }
 
-pub(crate) fn is_digit(b: u8) -> bool
-    ensures { result ≡ digit b }
+/// The number that digits write, up to the first byte that is none, if it is in range.
+fn magnitude(digits: &[u8]) -> Option<u64>
+    ensures { Told result (read_on 0 digits.now) }
 {
-    b'0' <= b && b <= b'9'
-}
-
-/// The number that the digits from a byte on write, if it is in range.
-pub(crate) fn magnitude(text: &[u8], from: usize) -> Option<u64>
-    requires { from ≤ length text.now }
-    ensures { Told result (read_on 0 (drop from text.now)) }
-{
-    let mut v: u64 = 0;
-    for i in from..text.len() {
-        let b = text[i];
-        if !is_digit(b) {
-            return Some(v);
+    let mut size = 0;
+    for b in digits {
+        if !b.is_ascii_digit() {
+            return Some(size);
         }
-        v = v * 10 + u64::from(b - b'0');
-        if v > 294912 {
+        size = 10 * size + u64::from(*b - b'0');
+        if size > NUMBER_LIMIT {
             return None;
         }
     }
-    Some(v)
+    Some(size)
 }
 
-pub(crate) fn plain(v: u64) -> i64
-    requires { v ≤ 294912 }
-    ensures { result ≡ pos v }
+/// The size of a number, if it is in range.
+pub(crate) fn amount_of(word: &[u8]) -> Option<u64>
+    ensures { Told result (amount word.now) }
 {
-    v as i64
+    magnitude(word.strip_prefix(b"-").unwrap_or(word))
 }
 
-pub(crate) fn minus(v: u64) -> i64
-    requires { v ≤ 294912 }
-    ensures { result ≡ neg_ℤ (pos v) }
+/// The number that is written, if it is in range.
+pub(crate) fn number_of(word: &[u8]) -> Option<i64>
+    ensures { (z : ℤ) → word.now ≡ signed z → Value result z }
 {
-    -(v as i64)
-}
-
-/// The number that stands at a byte, if it is in range.
-pub(crate) fn number_at(text: &[u8], at: usize) -> Option<i64>
-    requires { at < length text.now }
-    ensures { (z : ℤ) → tok_at (drop at text.now) ≡ signed z → Value result z }
-{
-    if text[at] == b'-' {
-        match magnitude(text, at + 1) {
-            Some(v) => Some(minus(v)),
-            None => None,
-        }
-    } else {
-        match magnitude(text, at) {
-            Some(v) => Some(plain(v)),
-            None => None,
-        }
-    }
-}
-
-/// Where the word or number that begins at a byte ends.
-fn token_end(text: &[u8], from: usize) -> usize
-    requires { from ≤ length text.now }
-    ensures low { from ≤ result }
-    ensures high { result ≤ length text.now }
-    ensures is { between from result text.now ≡ tok_at (drop from text.now) }
-{
-    for i in from..text.len() {
-        if !in_token(text[i]) {
-            return i;
-        }
-    }
-    text.len()
+    let size = amount_of(word)? as i64;
+    Some(if word.starts_with(b"-") { -size } else { size })
 }
 
 /// The word or number that begins at a byte.
@@ -111,19 +75,10 @@ pub(crate) fn token_at(text: &[u8], from: usize) -> &[u8]
     requires { from ≤ length text.now }
     ensures { result.now ≡ tok_at (drop from text.now) }
 {
-    let end = token_end(text, from);
-    &text[from..end]
-}
-
-/// Which of the names that begin at some bytes is this word: the first, or none.
-pub(crate) fn find_name(text: &[u8], names: &[u64], word: &[u8]) -> Option<usize>
-    requires { (k : ℕ) → k < length names.now → slice_index names.now k ≤ length text.now }
-    ensures { result ≡ rank (words_at text.now names.now) word.now }
-{
-    for i in 0..names.len() {
-        if token_at(text, names[i] as usize) == word {
-            return Some(i);
-        }
-    }
-    None
+    let behind = &text[from..];
+    let end = behind
+        .iter()
+        .position(|b| !in_token(*b))
+        .unwrap_or(behind.len());
+    &behind[..end]
 }

@@ -23,22 +23,26 @@ pub enum Went {
     Word,
 }
 
-/// What the grammar says of bytes: they are a text, or none goes on so at this byte.
-#[derive(Clone, Copy)]
-pub enum Verdict {
-    Whole,
-    Bad(usize),
+/// The words that are lent for reading a text: for the work, for the steps of its parts, and for its questions.
+#[derive(Drop)]
+pub struct Room<'w> {
+    pub stack: &'w mut [u64],
+    pub tokens: &'w mut [u64],
+    pub names: &'w mut [u64],
+    pub spots: &'w mut [u64],
+    pub steps: &'w mut [u64],
+    pub asked: &'w mut [u64],
 }
 
-/// What a text that is taken has: how many steps its parts have in all, and how many questions it asks.
+/// What a text that is taken lies in: the steps of its parts, one part behind the other, and its questions.
 #[derive(Clone, Copy)]
-pub struct Counts {
-    pub used: usize,
-    pub asked: usize,
+pub struct Layout<'w> {
+    pub steps: &'w [u64],
+    pub asked: &'w [u64],
 }
 
 /// Why a text is refused, and at which byte.
-#[derive(Clone, Copy, PartialEq, Debug)]
+#[derive(Clone, Copy, PartialEq, Eq, Debug)]
 pub enum Refusal {
     /// No text goes on so, or a word that is not taken yet.
     Grammar(usize),
@@ -51,7 +55,7 @@ pub enum Refusal {
 }
 
 /// What is expected of the next word.
-#[derive(Clone, Copy)]
+#[derive(Clone, Copy, PartialEq, Eq)]
 pub enum Expect {
     AtLine,
     AtNewName,
@@ -59,26 +63,4 @@ pub enum Expect {
     InBox(usize),
     AtUsedName,
     InPlace(usize),
-}
-
-/// What a word is found to be: wrong, or right, and then what is expected; or nothing behind it is looked at.
-#[derive(Clone, Copy)]
-pub enum Look {
-    Wrong(Refusal),
-    Next(Expect),
-    Done,
-}
-
-/// How far the bytes that are read begin a text, and whether they are one.
-#[derive(Clone, Copy)]
-pub struct Reach {
-    pub at: usize,
-    pub whole: bool,
-}
-
-/// What a text that is taken has: how many words and numbers, and how many parts.
-#[derive(Clone, Copy)]
-pub struct Found {
-    pub words: usize,
-    pub parts: usize,
 }

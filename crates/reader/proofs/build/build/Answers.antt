@@ -1,45 +1,85 @@
-use Rattle.std.proofs.Common.{arith}
-use Rattle.std.proofs.lemmas.List.{length-take}
-use Rattle.reader.proofs.Laying.{starts, tail_inside, tail-length, front_inside, part_room, part_there, part_laid, place_room, place_laid, ends}
+use Rattle.std.proofs.Common.{◌<◌, ◌++◌, List, ℕ, codes, length, sym, ap, ◌∙◌, arith}
+use Rattle.grammar.specs.Grammar.{same}
+use Rattle.reader.specs.Lines.{PlaceAt, question_at}
+use Rattle.reader.proofs.Ranks.{told_same}
+use Rattle.reader.proofs.Laying.{part_there, part_long, part_laid, place_there, place_long, place_laid, parts_known, parts_even, ends}
 use Rattle.reader.proofs.build.build.Goals as goal
 
-pub loop-at-init : goal.loop-at-init
-loop-at-init c = starts _ _ _ _ _ _ c.requires.taken
+pub part-requires-clause-taken : goal.part-requires-clause-taken
+part-requires-clause-taken c =
+    let g = c.loop-rest.invariant c.requires.taken in
+    let h : 0 < length c.loop-rest.rest = omega arith in
+    let e = ap (same (codes "part")) (sym c.at.ensures) ∙ told_same c.at.result.now (codes "part") c.as_slice.result.now c.eq.result c.eq.ensures c.as_slice.ensures ∙ c.if-eq.true in
+    part_there g h e
 
-pub is_part-requires : goal.is_part-requires
-is_part-requires c =
-    tail_inside c.args.text.now c.args.tokens.now c.loop-at.at c.requires.taken.inside 0 (omega (arith, tail-length c.loop-at.at c.args.tokens.now))
+pub part-requires-clause-spots_room : goal.part-requires-clause-spots_room
+part-requires-clause-spots_room c =
+    let g = c.loop-rest.invariant c.requires.taken in
+    let h : 0 < length c.loop-rest.rest = omega arith in
+    let e = ap (same (codes "part")) (sym c.at.ensures) ∙ told_same c.at.result.now (codes "part") c.as_slice.result.now c.eq.result c.eq.ensures c.as_slice.ensures ∙ c.if-eq.true in
+    let l = part_long g h e in
+    omega (arith, l, g.passed, g.spots_room)
 
-pub part_line-requires : goal.part_line-requires
-part_line-requires c =
-    let g = c.loop-at.invariant in
-    let l = part_room g c.loop-at-test.true c.if-is_part.ensures in
-    let t = tail-length c.loop-at.at c.args.tokens.now in
-    record {
-      long = l;
-      inside = tail_inside c.args.text.now c.args.tokens.now c.loop-at.at c.requires.taken.inside;
-      taken = part_there g c.loop-at-test.true c.if-is_part.ensures;
-      spots_room = omega arith;
-      steps_room = omega arith;
-    }
+pub part-requires-clause-steps_room : goal.part-requires-clause-steps_room
+part-requires-clause-steps_room c =
+    let g = c.loop-rest.invariant c.requires.taken in
+    let h : 0 < length c.loop-rest.rest = omega arith in
+    let e = ap (same (codes "part")) (sym c.at.ensures) ∙ told_same c.at.result.now (codes "part") c.as_slice.result.now c.eq.result c.eq.ensures c.as_slice.ensures ∙ c.if-eq.true in
+    let l = part_long g h e in
+    omega (arith, l, g.passed, g.each, g.steps_room)
 
-pub loop-at-preserved-then-is_part : goal.loop-at-preserved-then-is_part
-loop-at-preserved-then-is_part c = part_laid c.loop-at.invariant c.loop-at-test.true c.if-is_part.ensures _ _ c.part_line.ensures.spots c.part_line.ensures.steps
+pub behind-rest-requires-then-eq : goal.behind-rest-requires-then-eq
+behind-rest-requires-then-eq c =
+    let g = c.loop-rest.invariant c.requires.taken in
+    let h : 0 < length c.loop-rest.rest = omega arith in
+    let e = ap (same (codes "part")) (sym c.at.ensures) ∙ told_same c.at.result.now (codes "part") c.as_slice.result.now c.eq.result c.eq.ensures c.as_slice.ensures ∙ c.if-eq.true in
+    part_long g h e
 
-pub place_line-requires : goal.place_line-requires
-place_line-requires c =
-    let l = place_room c.loop-at.invariant c.loop-at-test.true c.if-is_part.ensures in
-    let t = tail-length c.loop-at.at c.args.tokens.now in
-    record {
-      long = l;
-      inside = tail_inside c.args.text.now c.args.tokens.now c.loop-at.at c.requires.taken.inside;
-      names = front_inside c.args.text.now c.args.names.now _ c.requires.taken.names_inside;
-      spots = simp length-take (omega arith);
-      asked_room = omega arith;
-    }
+pub loop-rest-preserved-then-eq : goal.loop-rest-preserved-then-eq
+loop-rest-preserved-then-eq c t =
+    let g = c.loop-rest.invariant t in
+    let h : 0 < length c.loop-rest.rest = omega arith in
+    let e = ap (same (codes "part")) (sym c.at.ensures) ∙ told_same c.at.result.now (codes "part") c.as_slice.result.now c.eq.result c.eq.ensures c.as_slice.ensures ∙ c.if-eq.true in
+    let p = c.part.ensures in
+    rw c.behind-rest-then-eq.ensures (part_laid g h e c.part.new.self p.spots p.steps p.rooms p.asked)
 
-pub loop-at-preserved : goal.loop-at-preserved
-loop-at-preserved c = place_laid c.loop-at.invariant c.loop-at-test.true c.if-is_part.ensures _ c.place_line.ensures
+pub first-requires : goal.first-requires
+first-requires c =
+    let g = c.loop-rest.invariant c.requires.taken in
+    omega (arith, parts_even g c.parts.result c.parts.ensures, parts_known g)
+
+pub place-requires-clause-taken : goal.place-requires-clause-taken
+place-requires-clause-taken c =
+    let g = c.loop-rest.invariant c.requires.taken in
+    let h : 0 < length c.loop-rest.rest = omega arith in
+    let e = ap (same (codes "part")) (sym c.at.ensures) ∙ told_same c.at.result.now (codes "part") c.as_slice.result.now c.eq.result c.eq.ensures c.as_slice.ensures ∙ c.if-eq.false in
+    place_there g h e
+
+pub place-requires-clause-room : goal.place-requires-clause-room
+place-requires-clause-room c =
+    let g = c.loop-rest.invariant c.requires.taken in
+    let h : 0 < length c.loop-rest.rest = omega arith in
+    let e = ap (same (codes "part")) (sym c.at.ensures) ∙ told_same c.at.result.now (codes "part") c.as_slice.result.now c.eq.result c.eq.ensures c.as_slice.ensures ∙ c.if-eq.false in
+    let l = place_long g h e in
+    omega (arith, l, g.passed, g.asked_room)
+
+pub behind-rest-requires-else-eq : goal.behind-rest-requires-else-eq
+behind-rest-requires-else-eq c =
+    let g = c.loop-rest.invariant c.requires.taken in
+    let h : 0 < length c.loop-rest.rest = omega arith in
+    let e = ap (same (codes "part")) (sym c.at.ensures) ∙ told_same c.at.result.now (codes "part") c.as_slice.result.now c.eq.result c.eq.ensures c.as_slice.ensures ∙ c.if-eq.false in
+    place_long g h e
+
+pub loop-rest-preserved : goal.loop-rest-preserved
+loop-rest-preserved c t =
+    let g = c.loop-rest.invariant t in
+    let h : 0 < length c.loop-rest.rest = omega arith in
+    let e = ap (same (codes "part")) (sym c.at.ensures) ∙ told_same c.at.result.now (codes "part") c.as_slice.result.now c.eq.result c.eq.ensures c.as_slice.ensures ∙ c.if-eq.false in
+    let p = c.place.ensures in
+    let asked = λ (q : PlaceAt c.loop-rest.rest). p.asked q ∙ ap (λ (ns : List (List ℕ)). c.loop-rest.lines.asked.items ++ question_at ns c.loop-rest.lines.spots.items q) c.first.ensures in
+    rw c.behind-rest-else-eq.ensures (place_laid g h e c.place.new.self c.parts.result (parts_even g c.parts.result c.parts.ensures) asked p.room p.others)
 
 pub returns : goal.returns
-returns c = ends c.loop-at.invariant c.loop-at-test.false (omega arith) (omega arith)
+returns c t =
+    let l = ends (c.loop-rest.invariant t) (omega arith) c.into_slice.result.now c.into_slice-2.result.now c.into_slice.ensures c.into_slice-2.ensures in
+    record { steps_are = l.0; asked_are = l.1; count = l.2 }

@@ -1,20 +1,22 @@
-use Rattle.std.proofs.Common.{Ok, Err}
+use Rattle.std.proofs.Common.{ℕ, take, subst, Ok, Err}
+use Rattle.std.proofs.lemmas.Result.{err_from_is_err_and}
 use Rattle.grammar.proofs.First.{first_word}
-use Rattle.reader.proofs.Examining.{words_said, taken}
+use Rattle.reader.specs.Reading.{Words}
+use Rattle.reader.proofs.Examining.{taken}
 use Rattle.reader.proofs.examine.examine.Goals as goal
 
-pub returns-in-Err : goal.returns-in-Err
-returns-in-Err c =
-    let w = words_said (Err c.in-Err.fault) c.args.text.now c.seen_of.result c.reach_of-reach.result.at c.scan_words.new.tokens c.scan_words.new.names c.seen_of.ensures c.in-Err.ensures in
-    first_word c.args.text.now c.reach_of-reach.result.at c.reach_of-reach.ensures.reaches _ w.0 w.1
+pub returns-in_err-found : goal.returns-in_err-found
+returns-in_err-found c =
+    let bs = c.args.text.now in
+    let at = c.reach_of-at.result in
+    let q = err_from_is_err_and c.from_residual.result c.from_residual.ensures.1 in
+    let w = subst (λ (n : ℕ). Words (Err c.in_err-found.field-0.0) n (take at bs)) c.seen_of.ensures c.in_err-found.ensures in
+    rw (q.1, q.2) (first_word bs at c.reach_of-at.ensures.reaches _ w.0 w.1)
 
-pub last_fault-requires : goal.last_fault-requires
-last_fault-requires c =
-    let w = words_said (Ok c.in-Ok.found) c.args.text.now c.seen_of.result c.reach_of-reach.result.at c.scan_words.new.tokens c.scan_words.new.names c.seen_of.ensures c.in-Ok.ensures in
-    record { reach = c.reach_of-reach.ensures; clean = w.0 }
-
-pub returns-in-None : goal.returns-in-None
-returns-in-None c =
-    let w = words_said (Ok c.in-Ok.found) c.args.text.now c.seen_of.result c.reach_of-reach.result.at c.scan_words.new.tokens c.scan_words.new.names c.seen_of.ensures c.in-Ok.ensures in
-    let t = c.in-None.ensures in
-    taken c.args.text.now c.reach_of-reach.result c.in-Ok.found c.scan_words.new.tokens c.scan_words.new.names c.reach_of-reach.ensures t.0 t.1 w
+pub returns : goal.returns
+returns c =
+    let bs = c.args.text.now in
+    let at = c.reach_of-at.result in
+    let w = subst (λ (n : ℕ). Words (Ok c.in_ok-found.found) n (take at bs)) c.seen_of.ensures c.in_ok-found.ensures in
+    let t = c.in_ok-last_fault.ensures in
+    taken bs at c.read_front-said.result c.in_ok-found.found c.reach_of-at.ensures t.0 t.1 w

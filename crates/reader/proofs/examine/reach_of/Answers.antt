@@ -1,8 +1,10 @@
-use Rattle.reader.proofs.Examining.{reached_whole, reached_bad}
+use Rattle.std.proofs.Common.{sym, ap, ◌∙◌, subst, ℕ}
+use Rattle.std.specs.Option.{unwrap_or}
+use Rattle.reader.specs.Reading.{Reached}
+use Rattle.reader.proofs.Examining.{reached, far_is}
 use Rattle.reader.proofs.examine.reach_of.Goals as goal
 
-pub returns-in-Whole : goal.returns-in-Whole
-returns-in-Whole c = reached_whole c.args.text.now c.min-end.result c.min-end.ensures c.in-Whole.ensures
-
-pub returns-in-Bad : goal.returns-in-Bad
-returns-in-Bad c = reached_bad c.args.text.now c.min-end.result c.in-Bad.at c.min-end.ensures c.in-Bad.ensures
+pub returns : goal.returns
+returns c =
+    let e = c.unwrap_or.ensures ∙ ap (λ o. unwrap_or o c.min.result) c.err.ensures.value ∙ far_is c.args.said c.min.result in
+    subst (λ (at : ℕ). Reached c.args.said at c.args.text.now) (sym e) (reached c.args.text.now c.args.said c.min.result c.min.ensures c.requires)

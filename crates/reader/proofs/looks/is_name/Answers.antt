@@ -1,9 +1,5 @@
-use Rattle.std.proofs.Common.{sym, ◌∙◌}
-use Rattle.reader.proofs.Words.{kind_is_name, kind_no_name}
+use Rattle.reader.proofs.Words.{name_by_kind}
 use Rattle.reader.proofs.looks.is_name.Goals as goal
 
-pub returns-in-NameWord : goal.returns-in-NameWord
-returns-in-NameWord c = sym (kind_is_name c.args.word.now c.in-NameWord.ensures)
-
-pub returns-in_default : goal.returns-in_default
-returns-in_default c = sym (kind_no_name c.args.word.now (λ f. c.in_default.not-NameWord (c.word_kind.ensures ∙ f)))
+pub returns-then-is_word : goal.returns-then-is_word
+returns-then-is_word c = rw (c.eq.ensures, c.word_kind.ensures) (name_by_kind c.args.word.now)

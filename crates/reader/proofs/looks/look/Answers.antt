@@ -1,30 +1,35 @@
-use Rattle.std.proofs.Common.{◌≡◌, ℕ, List, length, sym, ap, ◌∙◌, subst}
-use Rattle.std.proofs.lemmas.List.{length-map}
-use Rattle.grammar.specs.Faults.{Token, token}
-use Rattle.reader.specs.declared.types.Expect.{Expect}
-use Rattle.reader.specs.declared.types.Expect.TheVariants.{AtLine, InBox}
-use Rattle.reader.specs.declared.types.Look.{Look}
-use Rattle.reader.specs.declared.types.Look.TheVariants.{Wrong, Next, Done}
-use Rattle.reader.specs.Names.{words_at}
-use Rattle.reader.specs.Scan.{Looked}
+use Rattle.std.proofs.Common.{sym, not, rules, ◌∙◌, ◌≡◌, arith, ap, ℕ, List}
+use Rattle.grammar.specs.Faults.{token}
+use Rattle.grammar.specs.Grammar.{same}
+use Rattle.reader.proofs.Ranks.{same_pointwise}
+use Rattle.reader.proofs.Tests.{looked_new, looked_used, looked_shape, looked_box, looked_scale, looked_place, looked_over}
 use Rattle.reader.proofs.looks.look.Goals as goal
 
--- a box without numbers left is where a line begins
-over : (r : Look) (ns : List (List ℕ)) (t : Token) → Looked r AtLine ns t → Looked r (InBox 0) ns t
-over (Wrong f) ns t h = h
-over (Next e) ns t h = h
-over Done ns t h = h
+pub returns-in-AtNewName : goal.returns-in-AtNewName
+returns-in-AtNewName c = rw (c.next_unless-in-AtNewName.ensures, c.in-AtNewName.is) (looked_new c.args.names.now (token c.args.at c.args.word.now) _ (search rules))
 
-pub returns-in-AtLine : goal.returns-in-AtLine
-returns-in-AtLine c =
-    let ns = words_at c.args.text.now c.args.names.now in
-    let l : length ns ≡ length c.args.names.now = simp length-map in
-    subst (λ (e : Expect). Looked c.look_line.result e ns (token c.args.at c.args.word.now)) (sym c.in-AtLine.is) (c.look_line.ensures ns l)
+pub returns-in-AtShape : goal.returns-in-AtShape
+returns-in-AtShape c = rw (c.next_unless-in-AtShape.ensures, c.in-AtShape.is) (looked_shape c.args.names.now (token c.args.at c.args.word.now) _ (c.ne.ensures ∙ ap not (sym (same_pointwise c.args.word.now c.as_slice.result.now)) ∙ ap (λ (w : List ℕ). not (same c.args.word.now w)) c.as_slice.ensures))
 
-pub returns-then-left-eq0 : goal.returns-then-left-eq0
-returns-then-left-eq0 c =
-    let ns = words_at c.args.text.now c.args.names.now in
-    let l : length ns ≡ length c.args.names.now = simp length-map in
-    let e : c.args.expect ≡ InBox 0 = c.in-InBox.is ∙ ap (λ (k : ℕ). InBox k) c.if-left-eq0.true in
-    subst (λ (x : Expect). Looked c.look_line-then-left-eq0.result x ns (token c.args.at c.args.word.now)) (sym e)
-    (over c.look_line-then-left-eq0.result ns _ (c.look_line-then-left-eq0.ensures ns l))
+pub returns-in-AtUsedName : goal.returns-in-AtUsedName
+returns-in-AtUsedName c = rw (c.next_unless-in-AtUsedName.ensures, c.in-AtUsedName.is) (looked_used c.args.names.now (token c.args.at c.args.word.now) _ (search rules))
+
+pub returns-in-InBox : goal.returns-in-InBox
+returns-in-InBox c =
+    let ns = c.args.names.now in
+    rw (c.in-InBox.is, c.if-left-eq0.true) (looked_over ns (token c.args.at c.args.word.now) c.look_line-in-InBox.result (c.look_line-in-InBox.ensures ns (sym c.len-in-InBox.ensures)))
+
+pub returns-in-InBox-2 : goal.returns-in-InBox-2
+returns-in-InBox-2 c =
+    let h : c.in-InBox-2.left ≡ c.in-InBox.left = cc in
+    rw (c.next_unless.ensures, c.in-InBox-2.is) (looked_box c.args.names.now (token c.args.at c.args.word.now) c.in-InBox-2.left (omega arith) _ c.is_beyond.ensures)
+
+pub returns-in-InPlace : goal.returns-in-InPlace
+returns-in-InPlace c =
+    rw (c.next_unless-in-InPlace.ensures, c.in-InPlace.is, c.if-left-eq0-2.true) (looked_scale c.args.names.now (token c.args.at c.args.word.now) _ c.is_no_scale.ensures)
+
+pub returns-in-InPlace-2 : goal.returns-in-InPlace-2
+returns-in-InPlace-2 c =
+    let h : c.in-InPlace-2.left ≡ c.in-InPlace.left = cc in
+    rw (c.next_unless-in-InPlace-2.ensures, c.in-InPlace-2.is)
+    (looked_place c.args.names.now (token c.args.at c.args.word.now) c.in-InPlace-2.left (omega arith) _ c.is_beyond-in-InPlace-2.ensures)

@@ -1,6 +1,6 @@
 use Rattle.std.proofs.Common.{◌≡◌, ◌≤◌, drop}
-use Rattle.grammar.specs.Values.{read_on}
+use Rattle.grammar.specs.Values.{read_on, number_limit}
 use Rattle.reader.proofs.tokens.magnitude.Given as goal
 
-abbrev pub invariant-loop-i : goal.invariant-loop-i
-invariant-loop-i l = (read_on l.v (drop l.i l.text) ≡ read_on 0 (drop l.from l.text)) × (l.v ≤ 294912)
+abbrev pub invariant-loop-b : goal.invariant-loop-b
+invariant-loop-b l = (read_on l.size (drop l.b-index l.digits) ≡ read_on 0 l.digits) × (l.size ≤ number_limit)
