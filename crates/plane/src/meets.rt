@@ -29,12 +29,7 @@ fn with_offset_first(p: Plane) -> Plane
     ensures value { result ≡ offset_first p }
     ensures fits { FitsRow result }
 {
-    Plane {
-        a: p.d,
-        b: p.b,
-        c: p.c,
-        d: p.d,
-    }
+    Plane { a: p.d, ..p }
 }
 
 /// What x of the meet is, times the determinant.

@@ -15,10 +15,8 @@ fn shifted(p: Plane, t: Shift) -> Plane
     ensures { result ≡ moved_plane t p }
 {
     Plane {
-        a: p.a,
-        b: p.b,
-        c: p.c,
         d: p.d + weighed(p, t.x, t.y, t.z),
+        ..p
     }
 }
 
@@ -39,12 +37,7 @@ pub fn mirrored(p: Plane) -> Plane
     ensures fits { FitsPlane result }
     ensures heights { Together mirrored_plane mirrored_place }
 {
-    Plane {
-        a: -p.a,
-        b: p.b,
-        c: p.c,
-        d: p.d,
-    }
+    Plane { a: -p.a, ..p }
 }
 
 /// The plane with x and y exchanged.
@@ -57,8 +50,7 @@ pub fn swapped(p: Plane) -> Plane
     Plane {
         a: p.b,
         b: p.a,
-        c: p.c,
-        d: p.d,
+        ..p
     }
 }
 
@@ -73,6 +65,6 @@ pub fn rolled(p: Plane) -> Plane
         a: p.c,
         b: p.a,
         c: p.b,
-        d: p.d,
+        ..p
     }
 }

@@ -33,20 +33,13 @@ fn times(k: i64, p: Plane) -> Plane
     }
 }
 
-/// Whether the planes have the same numbers.
-fn same(p: Plane, r: Plane) -> bool
-    ensures { Decides result (p ≡ r) }
-{
-    p.a == r.a && p.b == r.b && p.c == r.c && p.d == r.d
-}
-
 /// Whether the planes' numbers are in one ratio.
 fn in_ratio(p: Plane, r: Plane) -> bool
     requires p { FitsPlane p }
     requires r { FitsPlane r }
     ensures { Decides result (InRatio p r) }
 {
-    same(times(along_of(p, p), r), times(along_of(p, r), p))
+    times(along_of(p, p), r) == times(along_of(p, r), p)
 }
 
 /// Whether two planes lie in the same one, and which way they look.

@@ -5,6 +5,8 @@ ghost use Rattle.arith.specs.Bounds.{Short};
 ghost use Rattle.plane.specs.Limits.{FitsPlane, Gentle, IfFits, Sloped, SmallPlace, coordinate_limit, weight_limit};
 ghost use Rattle.plane.specs.Planes.{height, side, turned, weight};
 
+use std::cmp::Ordering;
+
 use super::types::{OFFSET_LIMIT, Place, Plane, SLOPE_LIMIT, Side};
 
 /// Whether the number is from -limit to limit.
@@ -39,7 +41,7 @@ fn in_range(p: Plane) -> bool
 pub(crate) fn checked(p: Plane) -> Option<Plane>
     ensures { IfFits p result }
 {
-    if in_range(p) { Some(p) } else { None }
+    in_range(p).then_some(p)
 }
 
 /// The plane with these numbers, if it is in range.
@@ -90,12 +92,9 @@ pub fn side_of(p: Plane, q: Place) -> Side
     requires place { SmallPlace q }
     ensures { result ≡ side p q }
 {
-    let h = height_of(p, q);
-    if h < 0 {
-        Side::Below
-    } else if h == 0 {
-        Side::On
-    } else {
-        Side::Above
+    match height_of(p, q).cmp(&0) {
+        Ordering::Less => Side::Below,
+        Ordering::Equal => Side::On,
+        Ordering::Greater => Side::Above,
     }
 }

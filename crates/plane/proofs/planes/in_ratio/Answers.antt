@@ -2,6 +2,7 @@ use Rattle.std.proofs.Common.{◌≡◌, ℤ, sym, ap, ◌∙◌}
 use Rattle.arith.proofs.Sized.{is_call, is_back}
 use Rattle.plane.specs.Planes.{along}
 use Rattle.plane.specs.Ratios.{multiplied}
+use Rattle.plane.proofs.Ranges.{plane_eq-Decides}
 use Rattle.plane.proofs.planes.in_ratio.Goals as goal
 
 pub returns : goal.returns
@@ -12,4 +13,5 @@ returns c =
     let l = (is_back (is_call c.along_of-2.ensures.value c.along_of-2.ensures.short) tt).same in
     let e : c.times.result ≡ multiplied (along p p) r = c.times.ensures ∙ ap (λ (n : ℤ). multiplied n r) k in
     let f : c.times-2.result ≡ multiplied (along p r) p = c.times-2.ensures ∙ ap (λ (n : ℤ). multiplied n p) l in
-    (λ t. sym e ∙ c.same.ensures.0 t ∙ f, λ g. c.same.ensures.1 (e ∙ g ∙ sym f))
+    let same = plane_eq-Decides c.times.result c.times-2.result c.eq.result c.eq.ensures in
+    (λ t. sym e ∙ same.0 t ∙ f, λ g. same.1 (e ∙ g ∙ sym f))

@@ -1,15 +1,26 @@
-use Rattle.std.proofs.Common.{◌≡◌, pos, ◌<ℤ◌, sym, arith}
+use Rattle.std.proofs.Common.{◌≡◌, pos, ◌<ℤ◌, Less, Equal, Greater, sym, ◌∙◌, arith}
+use Rattle.std.proofs.lemmas.Cmp.{int_ranked}
 use Rattle.std.proofs.lemmas.Int.{ints}
-use Rattle.plane.specs.Planes.{height}
 use Rattle.arith.proofs.Order.{minus, none, plus}
+use Rattle.arith.proofs.Steps.{back}
+use Rattle.plane.specs.Planes.{height}
 use Rattle.plane.proofs.Heights.{height-side}
 use Rattle.plane.proofs.sides.side_of.Goals as goal
 
-pub returns-then-h-lt0 : goal.returns-then-h-lt0
-returns-then-h-lt0 c = let k : height c.args.p c.args.q <ℤ pos 0 = omega (arith, ints) in sym (height-side _ _ minus k)
+pub returns-in-Less : goal.returns-in-Less
+returns-in-Less c =
+    let r = int_ranked (back c.height_of.result) (pos 0) Less (sym c.in-Less.is ∙ c.cmp.ensures) in
+    let k : height c.args.p c.args.q <ℤ pos 0 = omega (arith, ints, r) in
+    sym (height-side _ _ minus k)
 
-pub returns-then-h-eq0 : goal.returns-then-h-eq0
-returns-then-h-eq0 c = let k : height c.args.p c.args.q ≡ pos 0 = omega (arith, ints) in sym (height-side _ _ none k)
+pub returns-in-Equal : goal.returns-in-Equal
+returns-in-Equal c =
+    let r = int_ranked (back c.height_of.result) (pos 0) Equal (sym c.in-Equal.is ∙ c.cmp.ensures) in
+    let k : height c.args.p c.args.q ≡ pos 0 = omega (arith, ints, r) in
+    sym (height-side _ _ none k)
 
-pub returns-else-h-eq0 : goal.returns-else-h-eq0
-returns-else-h-eq0 c = let k : pos 0 <ℤ height c.args.p c.args.q = omega (arith, ints) in sym (height-side _ _ plus k)
+pub returns-in-Greater : goal.returns-in-Greater
+returns-in-Greater c =
+    let r = int_ranked (back c.height_of.result) (pos 0) Greater (sym c.in-Greater.is ∙ c.cmp.ensures) in
+    let k : pos 0 <ℤ height c.args.p c.args.q = omega (arith, ints, r) in
+    sym (height-side _ _ plus k)
