@@ -1,9 +1,6 @@
-use Rattle.std.proofs.Common.{◌+◌, ap, arith}
+use Rattle.std.proofs.Common.{◌+◌, ap}
 use Rattle.solid.specs.Steps.{word}
-use Rattle.solid.proofs.steps.word_of.Goals as goal
-
-pub overflow_add-result : goal.overflow_add-result
-overflow_add-result c = omega arith
+use Rattle.solid.proofs.types.Step.word.Goals as goal
 
 pub returns-in-Both : goal.returns-in-Both
 unfolding word

@@ -1,7 +1,7 @@
 use Rattle.std.proofs.Common.{arith}
 use Rattle.std.proofs.lemmas.Bool.Decides.{nat_tests}
 use Rattle.solid.specs.Steps.{step}
-use Rattle.solid.proofs.steps.step_of.Goals as goal
+use Rattle.solid.proofs.steps.StepFromU64.from.Goals as goal
 
 pub returns-in-0 : goal.returns-in-0
 unfolding step
