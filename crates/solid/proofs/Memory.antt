@@ -2,11 +2,9 @@
 --     stacked_length                                 how many there are
 --     kept, pushed                                   what a write leaves and adds
 --     at_joint                                       what a step that joins two makes of them
-use Rattle.std.proofs.Common.{◌≡◌, ℕ, suc, ◌+◌, ◌-◌, ◌<◌, ◌≤◌, ◌≢◌, List, [], ◌∷◌, length, get_or, set, sym, ap, ◌∙◌, subst, add-one, arith, get_or-set_other, get_or-set_same}
-use Rattle.plane.specs.declared.types.Plane.{Plane}
+use Rattle.std.proofs.Common.{◌≡◌, ℕ, suc, ◌+◌, ◌<◌, ◌≤◌, ◌≢◌, List, [], ◌∷◌, length, set, sym, ap, ◌∙◌, subst, add-one, arith, get_or-set_other, get_or-set_same}
 use Rattle.solid.specs.declared.types.Step.{Step}
-use Rattle.solid.specs.declared.types.Step.TheVariants.{Half}
-use Rattle.solid.specs.Shapes.{Shape, half}
+use Rattle.solid.specs.Shapes.{Shape}
 use Rattle.solid.specs.Stacks.{Stacked, after, taken, Enough}
 
 module _ (R : ℕ → Shape → Type 0) where

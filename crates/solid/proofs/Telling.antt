@@ -1,7 +1,6 @@
 -- What is told of a place, by the walls, the shape's planes and the shape's value.
-use Rattle.std.proofs.Common.{◌≡◌, Bool, true, false, cond, ◌&&◌, ◌||◌, sym, refl, ap, ◌∙◌, ap₂}
+use Rattle.std.proofs.Common.{◌≡◌, cond, ◌&&◌, ◌||◌, ap}
 use Rattle.plane.specs.declared.types.Place.{Place}
-use Rattle.solid.specs.declared.types.Told.{Told}
 use Rattle.solid.specs.declared.types.Told.TheVariants.{In, Out, On}
 use Rattle.solid.specs.Shapes.{Shape, by, holds, planes, workshop, solid}
 use Rattle.solid.specs.Examples.{on_some, told}

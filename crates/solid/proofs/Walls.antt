@@ -1,12 +1,12 @@
 -- The workshop's planes are in range; on some, and in the workshop, by one test of each.
-use Rattle.std.proofs.Common.{◌≡◌, ◌+◌, ◌≤◌, Bool, true, false, ◌&&◌, ◌||◌, List, [], ◌∷◌, ℤ, pos, nat_abs, refl, sym, ap, subst, arith, lit≤}
+use Rattle.std.proofs.Common.{◌≡◌, ◌+◌, ◌≤◌, ◌||◌, List, [], ◌∷◌, ℤ, pos, nat_abs, refl, sym, ap, subst, arith, lit≤}
 use Rattle.std.proofs.Math.Bool.{and_assoc, and-true}
 use Rattle.std.specs.List.{list_any, list_all}
 use Rattle.plane.specs.declared.types.Plane.{Plane}
 use Rattle.plane.specs.declared.types.Place.{Place}
 use Rattle.plane.specs.Limits.{FitsPlane, offset_limit, reach}
 use Rattle.plane.specs.Planes.{below, on}
-use Rattle.solid.specs.Shapes.{by, holds, planes, plane, box, workshop, Has}
+use Rattle.solid.specs.Shapes.{by, holds, planes, box, workshop, Has}
 use Rattle.solid.specs.Examples.{on_some}
 use Rattle.solid.proofs.Members.{each_of}
 

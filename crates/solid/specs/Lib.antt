@@ -4,4 +4,5 @@ pub mod Laws
 pub mod Steps
 pub mod Told
 pub mod Stacks
+pub mod Values
 pub mod Examples

@@ -4,7 +4,8 @@ ghost use Rattle.std.specs.Prelude.{◌≡◌, ◌+◌, ◌<◌, ◌≤◌, Bool
 ghost use Rattle.plane.specs.Limits.{SmallPlace};
 ghost use Rattle.solid.specs.Shapes.{Shape, holds, planes, workshop, Fits};
 ghost use Rattle.solid.specs.Steps.{words, FitsStep};
-ghost use Rattle.solid.specs.Stacks.{after, plane_of_step, Enough, Stacked, ValuesAt};
+ghost use Rattle.solid.specs.Stacks.{after, plane_of_step, Enough};
+ghost use Rattle.solid.specs.Values.{StandsFor};
 ghost use Rattle.solid.specs.Examples.{on_some, told};
 
 use super::types::{Step, Steps, Told};
@@ -57,10 +58,9 @@ impl Values<'_> {
     /// Puts a value on the stack.
     fn push(&mut self, value: bool)
         requires { self.old.top < length self.old.words.now }
-        ensures stack { (q : Place) (s : Shape) (st : List Shape) → value ≡ holds s q → Stacked (ValuesAt q) st self.old.words.now self.old.top → Stacked (ValuesAt q) (s ∷ st) self.new.words.now self.new.top }
+        ensures stack { (q : Place) (s : Shape) (st : List Shape) → value ≡ holds s q → StandsFor self.old q st → StandsFor self.new q (s ∷ st) }
         ensures grows { self.new.top ≡ self.old.top + 1 }
         ensures room { length self.new.words.now ≡ length self.old.words.now }
-        ensures same { self.new.words.ghost_name ≡ self.old.words.ghost_name }
     {
         self.words[self.top] = u64::from(value);
         self.top += 1;
@@ -70,23 +70,22 @@ impl Values<'_> {
     fn pop(&mut self) -> bool
         requires some { 0 < self.old.top }
         requires room { self.old.top ≤ length self.old.words.now }
-        ensures stack { (q : Place) (s : Shape) (st : List Shape) → Stacked (ValuesAt q) (s ∷ st) self.old.words.now self.old.top → (result ≡ holds s q) × Stacked (ValuesAt q) st self.new.words.now self.new.top }
+        ensures stack { (q : Place) (s : Shape) (st : List Shape) → StandsFor self.old q (s ∷ st) → (result ≡ holds s q) × StandsFor self.new q st }
         ensures shrinks { self.new.top + 1 ≡ self.old.top }
         ensures room { length self.new.words.now ≡ length self.old.words.now }
-        ensures same { self.new.words.ghost_name ≡ self.old.words.ghost_name }
     {
         self.top -= 1;
         self.words[self.top] == 1
     }
+
     /// Joins the two newest values.
     fn join<F: FnOnce(bool, bool) -> bool>(&mut self, op: F)
         requires callable { F.IsAlwaysCallable op }
         requires some { 2 ≤ self.old.top }
         requires room { self.old.top ≤ length self.old.words.now }
-        ensures stack { (q : Place) (s t u : Shape) (st : List Shape) → ((v : Bool) → F.post op (holds s q) (holds t q) v → v ≡ holds u q) → Stacked (ValuesAt q) (t ∷ (s ∷ st)) self.old.words.now self.old.top → Stacked (ValuesAt q) (u ∷ st) self.new.words.now self.new.top }
+        ensures stack { (q : Place) (s t u : Shape) (st : List Shape) → ((v : Bool) → F.post op (holds s q) (holds t q) v → v ≡ holds u q) → StandsFor self.old q (t ∷ (s ∷ st)) → StandsFor self.new q (u ∷ st) }
         ensures shrinks { self.new.top + 1 ≡ self.old.top }
         ensures room { length self.new.words.now ≡ length self.old.words.now }
-        ensures same { self.new.words.ghost_name ≡ self.old.words.ghost_name }
     {
         let newest = self.pop();
         let other = self.pop();
@@ -98,10 +97,9 @@ impl Values<'_> {
         requires place { SmallPlace q }
         requires room { self.old.top < length self.old.words.now }
         requires enough { Enough s self.old.top }
-        ensures stack { (st : List Shape) → Stacked (ValuesAt q) st self.old.words.now self.old.top → Stacked (ValuesAt q) (after s st) self.new.words.now self.new.top }
+        ensures stack { (st : List Shape) → StandsFor self.old q st → StandsFor self.new q (after s st) }
         ensures grows { self.new.top ≤ self.old.top + 1 }
         ensures room { length self.new.words.now ≡ length self.old.words.now }
-        ensures same { self.new.words.ghost_name ≡ self.old.words.ghost_name }
     {
         match s {
             Step::Half(p) => self.push(p.side_of(q) == Side::Below),

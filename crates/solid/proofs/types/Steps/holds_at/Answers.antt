@@ -1,6 +1,5 @@
-use Rattle.std.proofs.Common.{◌≡◌, ℕ, [], length, get_or, sym, ap, ◌∙◌, subst, arith}
+use Rattle.std.proofs.Common.{◌≡◌, ℕ, [], length, get_or, sym, ap, subst, arith}
 use Rattle.solid.specs.declared.types.Step.{Step}
-use Rattle.solid.specs.Shapes.{Shape}
 use Rattle.solid.specs.Steps.{step}
 use Rattle.solid.specs.Stacks.{Enough, Stacked, ValuesAt}
 use Rattle.solid.proofs.Machine.{coded_makes, made_of, makes_more, makes_all}

@@ -1,6 +1,5 @@
 use Rattle.std.proofs.Common.{sym, refl, ◌∙◌, subst, rules}
 use Rattle.solid.specs.declared.types.Step.{Step}
-use Rattle.solid.specs.declared.types.Step.TheVariants.{Both, Either, Without}
 use Rattle.solid.specs.Shapes.{half, both, either, without, by, holds}
 use Rattle.solid.specs.Stacks.{after, Stacked, ValuesAt}
 use Rattle.solid.proofs.Memory.{at_joint}

@@ -1,4 +1,4 @@
-use Rattle.std.proofs.Common.{◌∷◌, ap₂, sym, subst}
+use Rattle.std.proofs.Common.{◌∷◌}
 use Rattle.solid.proofs.value.Values.join.Goals as goal
 
 pub returns-clause-stack : goal.returns-clause-stack
