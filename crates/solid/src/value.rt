@@ -112,6 +112,7 @@ impl Values<'_> {
 
 impl Step {
     /// Whether the place is on the plane of the step, if it has one.
+    #[tactic(auto, using(crate::proofs::Sided::sides), unfolding(crate::specs::Examples::on_some))]
     fn meets(self, q: Place) -> bool
         requires fits { FitsStep self }
         requires place { SmallPlace q }

@@ -25,6 +25,12 @@ expansion f g h =
     let k = minor (is_num g.a tt) (is_num h.b tt) (is_num g.b tt) (is_num h.a tt) tt in
     record { i = i; j = j; k = k; all = dot (is_num f.a tt) i.value (is_num f.b tt) j.value (is_num f.c tt) k.value tt }
 
+pub overflow_mul-i : goal.overflow_mul-i
+overflow_mul-i c = (expansion c.requires.p c.requires.q c.requires.r).i.first
+
+pub overflow_mul-i-2 : goal.overflow_mul-i-2
+overflow_mul-i-2 c = (expansion c.requires.p c.requires.q c.requires.r).i.second
+
 pub overflow_sub-i : goal.overflow_sub-i
 overflow_sub-i c = (expansion c.requires.p c.requires.q c.requires.r).i.both
 
