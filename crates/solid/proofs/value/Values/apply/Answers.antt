@@ -1,4 +1,4 @@
-use Rattle.std.proofs.Common.{sym, refl, ◌∙◌, subst, rules}
+use Rattle.std.proofs.Common.{sym, refl, subst, rules}
 use Rattle.solid.specs.declared.types.Step.{Step}
 use Rattle.solid.specs.Shapes.{half, both, either, without, by, holds}
 use Rattle.solid.specs.Stacks.{after, Stacked, ValuesAt}
