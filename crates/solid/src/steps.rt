@@ -34,6 +34,7 @@ fn lower(n: u64, k: u64) -> i64
 }
 
 /// The plane of a number, whose digits are the slopes and the offset.
+// No `From`: neither type is of this crate.
 #[tactic(auto, unfolding(crate::specs::Steps::numbered_plane))]
 fn plane_of(n: u64) -> Plane
     ensures { result ≡ numbered_plane n }
@@ -79,6 +80,7 @@ impl From<u64> for Step {
 
 impl Step {
     /// The word of the step.
+    // No `From`: a step out of range has no word.
     #[tactic(auto, unfolding(crate::specs::Steps::word))]
     pub fn word(self) -> u64
         requires { FitsStep self }
