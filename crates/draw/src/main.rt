@@ -4,11 +4,32 @@
 #![tactic(auto)]
 
 use modeller::drawing::Drawing;
-use modeller::types::{Refused, Reply};
-use solid::types::Told;
+use modeller::types::Refused;
+use modeller::{WORK_NEEDED, steps_for};
 use std::io::Read;
 use std::process::ExitCode;
 use std::{env, fs};
+
+/// Why the answers are not all told.
+#[derive(Drop)]
+enum Stop {
+    /// The text or a question is refused.
+    Refused(Refused),
+    /// Reading, printing or memory failed.
+    Failed(anyhow::Error),
+}
+
+impl From<Refused> for Stop {
+    fn from(why: Refused) -> Stop {
+        Stop::Refused(why)
+    }
+}
+
+impl From<anyhow::Error> for Stop {
+    fn from(error: anyhow::Error) -> Stop {
+        Stop::Failed(error)
+    }
+}
 
 /// The text: the file that is named, or standard input.
 fn text_of(rt: &HostRuntime) -> anyhow::Result<Vec<u8>> {
@@ -22,58 +43,35 @@ fn text_of(rt: &HostRuntime) -> anyhow::Result<Vec<u8>> {
     Ok(text)
 }
 
-/// How many words are lent for a text of so many bytes.
-fn steps_for(bytes: usize) -> usize {
-    bytes.saturating_mul(8).saturating_add(15)
+/// So many words to lend.
+fn words(rt: &HostRuntime, count: usize) -> anyhow::Result<Vec<u64>> {
+    Ok(vec![in rt.alloc(); 0u64; count]?)
 }
 
-fn refuse(rt: &HostRuntime, why: Refused) -> anyhow::Result<()> {
-    let number = why.number();
-    let place = why.place();
-    println!(rt; "refused {number} at {place}")?;
-    Ok(())
-}
-
-/// Tells one answer; false where it is refused.
-fn answer(rt: &HostRuntime, reply: Reply) -> anyhow::Result<bool> {
-    match reply {
-        Reply::Place(Told::In) => rt.println("in")?,
-        Reply::Place(Told::Out) => rt.println("out")?,
-        Reply::Place(Told::On) => rt.println("on")?,
-        Reply::NoQuestion => {}
-        Reply::Refused(why) => {
-            refuse(rt, why)?;
-            return Ok(false);
-        }
-    }
-    Ok(true)
-}
-
-/// Reads the text and tells its answers; false where it is refused.
-fn run(rt: &HostRuntime) -> anyhow::Result<bool> {
+/// Reads the text and tells its answers.
+fn run(rt: &HostRuntime) -> Result<(), Stop> {
     let text = text_of(rt)?;
-    let mut steps = vec![in rt.alloc(); 0u64; steps_for(text.len())]?;
-    let mut work = vec![in rt.alloc(); 0u64; 400]?;
-    let drawing = Drawing::read(&text, &mut steps);
-    if let Some(why) = drawing.refusal() {
-        refuse(rt, why)?;
-        return Ok(false);
-    }
+    let count = steps_for(text.len()).ok_or(Refused::Steps)?;
+    let mut steps = words(rt, count)?;
+    let mut work = words(rt, WORK_NEEDED)?;
+    let drawing = Drawing::read(&text, &mut steps)?;
     for k in 0..drawing.questions() {
-        if !answer(rt, drawing.tell(k, &mut work))? {
-            return Ok(false);
+        if let Some(reply) = drawing.tell(k, &mut work)? {
+            rt.println(&reply).map_err(anyhow::Error::from)?;
         }
     }
-    Ok(true)
+    Ok(())
 }
 
 fn main(rt: HostRuntime) -> ExitCode {
     match run(&rt) {
-        Ok(true) => ExitCode::SUCCESS,
-        Ok(false) => ExitCode::FAILURE,
-        Err(error) => {
+        Ok(()) => return ExitCode::SUCCESS,
+        Err(Stop::Refused(why)) => {
+            let _ = rt.println(&why);
+        }
+        Err(Stop::Failed(error)) => {
             let _ = rt.eprintln(&error);
-            ExitCode::FAILURE
         }
     }
+    ExitCode::FAILURE
 }

@@ -1,5 +1,5 @@
 -- From what a drawing holds to what is told of it.
-use Rattle.std.proofs.Common.{◌≡◌, ℕ, ◌+◌, ◌*◌, ◌<◌, ◌≤◌, true, List, [], length, get_or, take, drop, ℤ, sym, refl, ap, ◌∙◌, subst, arith, to_z-of_z, w64, to_z, of_z}
+use Rattle.std.proofs.Common.{◌≡◌, ℕ, ◌+◌, ◌*◌, ◌/◌, ◌<◌, ◌≤◌, true, List, [], length, get_or, take, drop, ℤ, Some, None, Ok, sym, refl, ap, ◌∙◌, subst, arith, to_z-of_z, w64, to_z, of_z}
 use mathlib.Core.Bool.{Bool-discrete}
 use mathlib.Core.Logic.{∥∥₁_elim}
 use mathlib.Core.HLevel.{hedberg}
@@ -16,24 +16,21 @@ use Rattle.solid.proofs.Values.{words-length}
 use Rattle.grammar.specs.Grammar.{Line, print}
 use Rattle.grammar.specs.Meaning.{fine, questions, Question, model_of, nothing}
 use Rattle.grammar.proofs.Once.{once}
-use Rattle.reader.specs.declared.types.Counts.{Counts}
+use Rattle.reader.specs.declared.types.Layout.{Layout}
 use Rattle.reader.specs.Layout.{Laid}
 use Rattle.reader.specs.Asked.{Lies}
 use Rattle.reader.proofs.Asked.{laid_lies}
-use Rattle.modeller.specs.declared.types.State.TheVariants.{Taken}
 use Rattle.modeller.specs.Drawings.{Drawn}
 use Rattle.modeller.specs.declared.types.Reply.{Reply}
-use Rattle.modeller.specs.declared.types.Reply.TheVariants.{Place as AtPlace, NoQuestion}
+use Rattle.modeller.specs.declared.types.Reply.TheVariants.{Place as AtPlace}
 use Rattle.solid.specs.Examples.{told}
 use Rattle.modeller.specs.Replies.{Ready, place_in, steps_in, work_needed, Replied, Answers}
 
 -- each of these is a proposition
-laid_prop : (ls : List Line) (n : Counts) (steps asked : List ℕ) → IsProp (Laid ls n steps asked)
-laid_prop ls n steps asked a b = λ i. record {
+laid_prop : (ls : List Line) (l : Layout) → IsProp (Laid ls l)
+laid_prop ls l a b = λ i. record {
   steps_are = words_set _ _ a.steps_are b.steps_are i;
-  used_fits = le_prop a.used_fits b.used_fits i;
   asked_are = words_set _ _ a.asked_are b.asked_are i;
-  asked_fits = le_prop a.asked_fits b.asked_fits i;
   count = hedberg ℕ_discrete _ _ a.count b.count i;
 }
 
@@ -79,36 +76,45 @@ module _ (steps asked : List ℕ) (k : ℕ) (q : Question) (l : Lies steps asked
     few = let h = l.fits.few in omega (arith, l.count_is, l.long, words-length l.shape);
   }
 
--- a drawing that is taken
-module _ (n : Counts) (text steps asked : List ℕ) (d : ∥ Drawn (Taken n) text steps asked ∥₁) where
-  pub drawn_ready : (k : ℕ) → k < n.asked → Ready steps asked k
-  drawn_ready k h =
-      ∥∥₁_elim d (ready_prop steps asked k)
-      (λ t. ready steps asked k _ (laid_lies t.0 n steps asked t.3 t.2 k h (model_of nothing)))
+-- a text that is taken
+module _ (text : List ℕ) (l : Layout) (d : ∥ Drawn text l ∥₁) where
+  pub drawn_ready : (n k : ℕ) → ((ls : List Line) → text ≡ print ls → n ≡ length (questions [] ls)) → k < n → Ready l.steps.now l.asked.now k
+  drawn_ready n k f h =
+      ∥∥₁_elim d (ready_prop l.steps.now l.asked.now k)
+      (λ t. ready l.steps.now l.asked.now k _ (laid_lies t.0 l t.3 t.2 k (omega (arith, f t.0 t.1)) (model_of nothing)))
 
   pub drawn_fine : (ls : List Line) → text ≡ print ls → fine [] ls ≡ true
   drawn_fine ls e = ∥∥₁_elim d (hedberg Bool-discrete _ _) (λ t. subst (λ (ms : List Line). fine [] ms ≡ true) (once t.0 ls (sym t.1 ∙ e)) t.2)
 
-  pub drawn_laid : (ls : List Line) → text ≡ print ls → Laid ls n steps asked
-  drawn_laid ls e = ∥∥₁_elim d (laid_prop ls n steps asked) (λ t. subst (λ (ms : List Line). Laid ms n steps asked) (once t.0 ls (sym t.1 ∙ e)) t.3)
+  pub drawn_laid : (ls : List Line) → text ≡ print ls → Laid ls l
+  drawn_laid ls e = ∥∥₁_elim d (laid_prop ls l) (λ t. subst (λ (ms : List Line). Laid ms l) (once t.0 ls (sym t.1 ∙ e)) t.3)
 
-  -- behind the last question there is none
-  pub reply_none : (work k : ℕ) → work_needed ≤ work → n.asked ≤ k → Replied (Taken n) text work k NoQuestion
-  reply_none work k h m = (
-    λ l. absurd (omega arith),
-    λ _ _. refl,
-    λ ls q _ e l g. absurd (omega (arith, (drawn_laid ls e).count)),
-  )
+  -- how many questions there are
+  pub asked_count : (ls : List Line) → text ≡ print ls → length l.asked.now / 6 ≡ length (questions [] ls)
+  asked_count ls e = omega (arith, (drawn_laid ls e).count)
 
-  -- a question about a place
-  pub reply_place : (work k : ℕ) (r : Reply) → work_needed ≤ work → k < n.asked →
-      ((s : Shape) → Fits s → steps_in steps asked k ≡ words s → r ≡ AtPlace (told s (place_in asked k))) → Replied (Taken n) text work k r
-  reply_place work k r h m f = (λ l. absurd (omega arith), λ _ l. absurd (omega arith), go)
-    where
-      go : (ls : List Line) (q : Question) → work_needed ≤ work → text ≡ print ls → k < length (questions [] ls) → get_or (questions [] ls) k q ≡ q → Answers q r
-      go ls q _ e l g =
-          let lies = laid_lies ls n steps asked (drawn_laid ls e) (drawn_fine ls e) k m q in
-          let a : r ≡ AtPlace (told lies.shape lies.place) =
-          f lies.shape lies.fits (steps_are steps asked k _ lies) ∙ ap (λ (p : Place). AtPlace (told lies.shape p)) (place_is steps asked k _ lies) in
-          let P : Question → Type 0 = λ u. Answers u r in
-          subst P (sym lies.is ∙ g) a
+  module _ (n work k : ℕ) (f : (ls : List Line) → text ≡ print ls → n ≡ length (questions [] ls)) (m : work_needed ≤ work) where
+    -- behind the last question there is none
+    pub reply_none : n ≤ k → Replied text work k (Ok None)
+    reply_none h = record {
+      few = λ w. absurd (omega arith);
+      none = λ ls _ e _. refl;
+      some = λ ls q _ e b g. absurd (omega (arith, f ls e));
+    }
+
+    -- a question about a place
+    pub reply_place : (r : Reply) → k < n → ((s : Shape) → Fits s → steps_in l.steps.now l.asked.now k ≡ words s → r ≡ AtPlace (told s (place_in l.asked.now k))) → Replied text work k (Ok (Some r))
+    reply_place r h g = record {
+      few = λ w. absurd (omega arith);
+      none = λ ls _ e b. absurd (omega (arith, f ls e));
+      some = λ ls q _ e b a. (
+        r,
+        refl,
+        let lies = laid_lies ls l (drawn_laid ls e) (drawn_fine ls e) k b q in
+            let place = place_is l.steps.now l.asked.now k _ lies in
+            let x : r ≡ AtPlace (told lies.shape lies.place) =
+            g lies.shape lies.fits (steps_are l.steps.now l.asked.now k _ lies) ∙ ap (λ (p : Place). AtPlace (told lies.shape p)) place in
+            let P : Question → Type 0 = λ u. Answers u r in
+            subst P (sym lies.is ∙ a) x,
+      );
+    }

@@ -1,2 +1,4 @@
+pub mod Refusals
 pub mod Drawings
+pub mod Openings
 pub mod Replies

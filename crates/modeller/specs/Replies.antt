@@ -1,5 +1,5 @@
 -- What is told to a question.
-use Rattle.std.specs.Prelude.{◌≡◌, ℕ, ◌+◌, ◌*◌, ◌<◌, ◌≤◌, List, [], length, take, drop, Some, None, Option, slice_index, slice_index_or}
+use Rattle.std.specs.Prelude.{◌≡◌, ℕ, ◌+◌, ◌*◌, ◌<◌, ◌≤◌, List, [], length, take, drop, Some, None, Ok, Err, Option, Result, slice_index, slice_index_or}
 use Rattle.std.specs.Int.{w64, cast_signed}
 use Rattle.plane.specs.declared.types.Place.{Place as Spot}
 use Rattle.plane.specs.Limits.{SmallPlace}
@@ -8,12 +8,10 @@ use Rattle.solid.specs.Shapes.{most_planes}
 use Rattle.solid.specs.Examples.{told}
 use Rattle.grammar.specs.Grammar.{Line, print}
 use Rattle.grammar.specs.Meaning.{Question, where_is, are_same, do_meet, model_of, questions}
-use Rattle.modeller.specs.declared.types.State.{State}
-use Rattle.modeller.specs.declared.types.State.TheVariants.{Taken, Refused as No}
 use Rattle.modeller.specs.declared.types.Refused.{Refused}
 use Rattle.modeller.specs.declared.types.Refused.TheVariants.{Work}
 use Rattle.modeller.specs.declared.types.Reply.{Reply}
-use Rattle.modeller.specs.declared.types.Reply.TheVariants.{Place, NoQuestion, Refused as Not}
+use Rattle.modeller.specs.declared.types.Reply.TheVariants.{Place}
 
 -- how many words are lent for the work
 abbrev pub work_needed : ℕ
@@ -26,23 +24,12 @@ Answers (are_same s t) r = ⊥
 Answers (do_meet s t) r = ⊥
 Answers (model_of s) r = ⊥
 
--- how many questions a text has, and why it is refused
-abbrev pub asks : State → ℕ
-asks (Taken n) = n.asked
-asks (No r) = 0
-
-abbrev pub refusal_of : State → Option Refused
-refusal_of (Taken n) = None
-refusal_of (No r) = Some r
-
--- of a text that is refused the refusal is told again; else, where the words for the work are too few, that; else the k-th question is
--- answered, if there is one
-abbrev pub Replied : State → List ℕ → ℕ → ℕ → Reply → Type 0
-Replied (No f) text work k r = r ≡ Not f
-Replied (Taken n) text work k r =
-    (work < work_needed → r ≡ Not Work)
-    × (work_needed ≤ work → n.asked ≤ k → r ≡ NoQuestion)
-    × ((ls : List Line) (q : Question) → work_needed ≤ work → text ≡ print ls → k < length (questions [] ls) → slice_index_or (questions [] ls) k q ≡ q → Answers q r)
+-- where the words for the work are too few, that is told; else the k-th question is answered, if there is one
+pub record Replied (text : List ℕ) (work k : ℕ) (r : Result (Option Reply) Refused) : Type 0 where
+  pub few : work < work_needed → r ≡ Err Work
+  pub none : (ls : List Line) → work_needed ≤ work → text ≡ print ls → length (questions [] ls) ≤ k → r ≡ Ok None
+  pub some : (ls : List Line) (q : Question) → work_needed ≤ work → text ≡ print ls → k < length (questions [] ls) → slice_index_or (questions [] ls) k q ≡ q →
+      (a : Reply) × (r ≡ Ok (Some a)) × Answers q a
 
 -- the place of the k-th question, and where its part's steps are
 abbrev pub place_in : List ℕ → ℕ → Spot

@@ -1,14 +1,13 @@
-//! A text that has been read, with the words in which its parts and questions lie.
+//! A text that is taken, with the words in which its parts and questions lie.
 
 ghost use Rattle.modeller.specs.Drawings.{Drawn};
 
-use super::types::State;
+use reader::types::Layout;
 
+/// A text that is taken, with the words in which its parts and questions lie.
 #[derive(Drop)]
 pub struct Drawing<'t, 's> {
     pub text: &'t [u8],
-    pub steps: &'s [u64],
-    pub asked: &'s [u64],
-    pub state: State,
-    ghost read: { ∥ Drawn state text.now steps.now asked.now ∥₁ },
+    pub layout: Layout<'s>,
+    ghost read: { ∥ Drawn text.now layout ∥₁ },
 }

@@ -2,12 +2,16 @@
 
 #![tactic(auto)]
 
-ghost use Rattle.std.specs.Prelude.{◌≡◌, ◌+◌, ◌*◌, ◌≤◌, length};
+ghost use Rattle.std.specs.Prelude.{◌≡◌, ◌+◌, ◌*◌, ◌^◌, ◌<◌, ◌≤◌, List, [], length};
+ghost use Rattle.std.specs.Option.{SomeIff};
 ghost use Rattle.solid.specs.Examples.{told};
 ghost use Rattle.solid.specs.Shapes.{Shape, Fits};
 ghost use Rattle.solid.specs.Steps.{words};
-ghost use Rattle.modeller.specs.Drawings.{Opened, number_and_place};
-ghost use Rattle.modeller.specs.Replies.{asks, refusal_of, Replied, place_in, steps_in, Ready, work_needed};
+ghost use Rattle.grammar.specs.Grammar.{Line, print};
+ghost use Rattle.grammar.specs.Meaning.{questions};
+ghost use Rattle.modeller.specs.Drawings.{steps_needed};
+ghost use Rattle.modeller.specs.Openings.{Opened};
+ghost use Rattle.modeller.specs.Replies.{Replied, place_in, steps_in, Ready, work_needed};
 
 pub mod drawing;
 #[cfg(test)]
@@ -16,109 +20,67 @@ pub mod types;
 
 use drawing::Drawing;
 use plane::types::Place;
-use reader::types::Refusal;
-use solid::value::place_told;
-use types::{Refused, Reply, State};
+use reader::types::{Layout, Room};
+use solid::types::Steps;
+use types::{Refused, Reply};
 
 /// How many words are lent for the work: each plane of a part is a step, and so is each joint but one.
-const WORK_NEEDED: usize = 400;
+pub const WORK_NEEDED: usize = 400;
+
+/// How many words a question has.
+const QUESTION_WORDS: usize = 6;
+
+/// How many words are lent for the steps of a text of so many bytes, if there can be so many.
+pub fn steps_for(bytes: usize) -> Option<usize>
+    ensures { SomeIff result (steps_needed bytes < 2 ^ 64) (steps_needed bytes) }
+{
+    bytes.checked_mul(8)?.checked_add(15)
+}
 
 impl<'t, 's> Drawing<'t, 's> {
     /// Reads a text into lent words.
-    pub fn read(text: &'t [u8], lent: &'s mut [u64]) -> Drawing<'t, 's>
-        ensures text { result.text.now ≡ text.now }
-        ensures opened { Opened result.state text.now (length lent.old) }
+    pub fn read(text: &'t [u8], lent: &'s mut [u64]) -> Result<Drawing<'t, 's>, Refused>
+        ensures { Opened result text.now (length lent.old) }
     {
         let n = text.len();
-        if n > 2305843009213693948 || lent.len() < 8 * n + 15 {
-            return Drawing {
-                text,
-                steps: lent,
-                asked: &[],
-                state: State::Refused(Refused::Steps),
-            };
+        if lent.len() < steps_for(n).ok_or(Refused::Steps)? {
+            return Err(Refused::Steps);
         }
         let (stack, rest) = lent.split_at_mut(2 * n + 15);
         let (tokens, rest) = rest.split_at_mut(n);
         let (names, rest) = rest.split_at_mut(n);
         let (spots, rest) = rest.split_at_mut(n);
         let (steps, asked) = rest.split_at_mut(2 * n);
-        let state = match reader::read(text, stack, tokens, names, spots, steps, asked) {
-            Ok(counts) => State::Taken(counts),
-            Err(fault) => State::Refused(Refused::Text(fault)),
-        };
-        Drawing {
-            text,
+        let room = Room {
+            stack,
+            tokens,
+            names,
+            spots,
             steps,
             asked,
-            state,
-        }
-    }
-
-    /// Why the text is refused, if it is.
-    pub fn refusal(&self) -> Option<Refused>
-        ensures { result ≡ refusal_of self.now.state }
-    {
-        match self.state {
-            State::Taken(_) => None,
-            State::Refused(why) => Some(why),
-        }
+        };
+        let layout = reader::read(text, room)?;
+        Ok(Drawing { text, layout })
     }
 
     /// How many questions the text asks.
     pub fn questions(&self) -> usize
-        ensures { result ≡ asks self.now.state }
+        ensures { (ls : List Line) → self.now.text.now ≡ print ls → result ≡ length (questions [] ls) }
     {
-        match self.state {
-            State::Taken(counts) => counts.asked,
-            State::Refused(_) => 0,
-        }
+        self.layout.asked.len() / QUESTION_WORDS
     }
 
-    /// The answer to the k-th question.
-    pub fn tell(&self, k: usize, work: &mut [u64]) -> Reply
-        ensures { Replied self.now.state self.now.text.now (length work.old) k result }
+    /// The answer to the k-th question, if there is one.
+    pub fn tell(&self, k: usize, work: &mut [u64]) -> Result<Option<Reply>, Refused>
+        ensures { Replied self.now.text.now (length work.old) k result }
     {
-        let counts = match self.state {
-            State::Taken(counts) => counts,
-            State::Refused(why) => return Reply::Refused(why),
-        };
         if work.len() < WORK_NEEDED {
-            return Reply::Refused(Refused::Work);
+            return Err(Refused::Work);
         }
-        if k >= counts.asked {
-            return Reply::NoQuestion;
+        if k >= self.questions() {
+            return Ok(None);
         }
-        place_reply(self.steps, self.asked, k, work)
-    }
-}
-
-impl Refused {
-    /// The refusal's number.
-    pub fn number(self) -> usize
-        ensures { result ≡ (number_and_place self).number }
-    {
-        match self {
-            Refused::Text(Refusal::Grammar(_)) => 1,
-            Refused::Text(Refusal::Name(_)) => 2,
-            Refused::Text(Refusal::Limit(_)) => 3,
-            Refused::Text(Refusal::Range(_)) => 4,
-            Refused::Steps | Refused::Work => 5,
-        }
-    }
-
-    /// Where it is refused.
-    pub fn place(self) -> usize
-        ensures { result ≡ (number_and_place self).place }
-    {
-        match self {
-            Refused::Text(Refusal::Grammar(at))
-            | Refused::Text(Refusal::Name(at))
-            | Refused::Text(Refusal::Limit(at))
-            | Refused::Text(Refusal::Range(at)) => at,
-            Refused::Steps => 0,
-            Refused::Work => 1,
-        }
+        Ok(Some(place_reply(self.layout, k, work)))
     }
 }
 
@@ -127,7 +89,7 @@ fn place_at(asked: &[u64], k: usize) -> Place
     requires { 6 * k + 6 ≤ length asked.now }
     ensures { result ≡ place_in asked.now k }
 {
-    let at = 6 * k;
+    let at = QUESTION_WORDS * k;
     Place {
         x: asked[at + 2].cast_signed(),
         y: asked[at + 3].cast_signed(),
@@ -137,12 +99,14 @@ fn place_at(asked: &[u64], k: usize) -> Place
 }
 
 /// Where the place of the k-th question is.
-fn place_reply(steps: &[u64], asked: &[u64], k: usize, work: &mut [u64]) -> Reply
-    requires ready { Ready steps.now asked.now k }
+fn place_reply(layout: Layout<'_>, k: usize, work: &mut [u64]) -> Reply
+    requires ready { Ready layout.steps.now layout.asked.now k }
     requires room { work_needed ≤ length work.old }
-    ensures { (s : Shape) → Fits s → steps_in steps.now asked.now k ≡ words s → result ≡ Reply.Place (told s (place_in asked.now k)) }
+    ensures { (s : Shape) → Fits s → steps_in layout.entry.steps.now layout.entry.asked.now k ≡ words s → result ≡ Reply.Place (told s (place_in layout.entry.asked.now k)) }
 {
-    let from = asked[6 * k] as usize;
-    let end = from + asked[6 * k + 1] as usize;
-    Reply::Place(place_told(&steps[from..end], place_at(asked, k), work))
+    let at = QUESTION_WORDS * k;
+    let from = layout.asked[at] as usize;
+    let end = from + layout.asked[at + 1] as usize;
+    let steps = Steps::new(&layout.steps[from..end]);
+    Reply::Place(steps.place_told(place_at(layout.asked, k), work))
 }

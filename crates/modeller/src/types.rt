@@ -1,10 +1,15 @@
 //! What the modeller hands back.
 
-use reader::types::{Counts, Refusal};
+ghost use Rattle.std.specs.Prelude.{◌≡◌};
+ghost use Rattle.modeller.specs.Refusals.{number_and_place};
+
+use reader::types::Refusal;
 use solid::types::Told;
+use std::error::Error;
+use std::fmt;
 
 /// Why nothing is told.
-#[derive(Clone, Copy, PartialEq, Debug)]
+#[derive(Clone, Copy, Debug, PartialEq, Eq)]
 pub enum Refused {
     /// A fault of the text.
     Text(Refusal),
@@ -14,19 +19,64 @@ pub enum Refused {
     Work,
 }
 
-/// What became of a text: it is taken, or refused.
-#[derive(Clone, Copy)]
-pub enum State {
-    Taken(Counts),
-    Refused(Refused),
+impl Refused {
+    /// The refusal's number.
+    pub fn number(self) -> usize
+        ensures { result ≡ (number_and_place self).number }
+    {
+        match self {
+            Refused::Text(Refusal::Grammar(_)) => 1,
+            Refused::Text(Refusal::Name(_)) => 2,
+            Refused::Text(Refusal::Limit(_)) => 3,
+            Refused::Text(Refusal::Range(_)) => 4,
+            Refused::Steps | Refused::Work => 5,
+        }
+    }
+
+    /// Where it is refused.
+    pub fn place(self) -> usize
+        ensures { result ≡ (number_and_place self).place }
+    {
+        match self {
+            Refused::Text(Refusal::Grammar(at))
+            | Refused::Text(Refusal::Name(at))
+            | Refused::Text(Refusal::Limit(at))
+            | Refused::Text(Refusal::Range(at)) => at,
+            Refused::Steps => 0,
+            Refused::Work => 1,
+        }
+    }
 }
 
+impl From<Refusal> for Refused {
+    ghost use Rattle.modeller.specs.declared.types.Refused.{Refused};
+
+    ghost from_gives = { λ why r. r ≡ Refused.Text why };
+
+    fn from(why: Refusal) -> Refused {
+        Refused::Text(why)
+    }
+}
+
+impl fmt::Display for Refused {
+    fn fmt<W: fmt::Write>(&self, f: &mut fmt::Formatter<W>) -> fmt::Result {
+        write!(f, "refused {} at {}", self.number(), self.place())
+    }
+}
+
+impl Error for Refused {}
+
 /// The answer to a question.
-#[derive(Clone, Copy, PartialEq, Debug)]
+#[derive(Clone, Copy, Debug, PartialEq, Eq)]
 pub enum Reply {
     /// Where the place is.
     Place(Told),
-    /// There is no such question.
-    NoQuestion,
-    Refused(Refused),
+}
+
+impl fmt::Display for Reply {
+    fn fmt<W: fmt::Write>(&self, f: &mut fmt::Formatter<W>) -> fmt::Result {
+        match self {
+            Reply::Place(told) => write!(f, "{told}"),
+        }
+    }
 }

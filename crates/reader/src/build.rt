@@ -15,7 +15,6 @@ use super::types::Layout;
 use super::word_list::{Found, WordList};
 use lent::LentList;
 use plane::types::Plane;
-use solid::steps::word_of;
 use solid::types::Step;
 
 /// How many words and numbers the line of a part has.
@@ -32,7 +31,7 @@ fn half_word(a: i64, b: i64, c: i64, d: i64) -> u64
     requires { FitsPlane (plane a b c d) }
     ensures { result ≡ word (Step.Half (plane a b c d)) }
 {
-    word_of(Step::Half(Plane { a, b, c, d }))
+    Step::Half(Plane { a, b, c, d }).word()
 }
 
 /// The steps of a box.
@@ -41,7 +40,7 @@ fn box_words(x0: i64, x1: i64, y0: i64, y1: i64, z0: i64, z1: i64) -> [u64; BOX_
     requires high { (Short x1 number_limit) × ((Short y1 number_limit) × (Short z1 number_limit)) }
     ensures { result ≡ words (box x0 x1 y0 y1 z0 z1) }
 {
-    let both = word_of(Step::Both);
+    let both = Step::Both.word();
     [
         half_word(1, 0, 0, x1),
         half_word(-1, 0, 0, -x0),

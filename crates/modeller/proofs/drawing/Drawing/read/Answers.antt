@@ -1,17 +1,12 @@
-use Rattle.std.proofs.Common.{sym, subst}
-use Rattle.modeller.specs.declared.types.State.{State}
-use Rattle.modeller.specs.Drawings.{Drawn}
+use Rattle.std.proofs.Common.{ℕ, ◌<◌, ◌^◌, length, Option, arith, subst}
+use Rattle.std.specs.Option.{SomeIff}
+use Rattle.std.proofs.lemmas.Result.{err_from_is_err_and}
+use Rattle.modeller.specs.Drawings.{steps_needed}
 use Rattle.modeller.proofs.drawing.Drawing.read.Goals as goal
-use Rattle.modeller.proofs.drawing.Drawing.read.Goals.{in-Ok, in-Err}
 
-pub invariant_of-result : goal.invariant_of-result
-invariant_of-result c = record { read = ∣ tt ∣₁ }
-
-pub invariant_of-result-2 : goal.invariant_of-result-2
-invariant_of-result-2 c =
-    let P : State → Type 0 = λ s. Drawn s c.args.text.now c.read.new.steps c.read.new.asked in
-    let d : P c.match-read.state = elim c.match-read.branch [
-      | in-Ok w ↦ subst P (sym w.state-is) w.in-Ok.ensures
-      | in-Err w ↦ subst P (sym w.state-is) tt
-    ] in
-    record { read = ∣ d ∣₁ }
+pub returns-in_err-layout : goal.returns-in_err-layout
+returns-in_err-layout c =
+    let q = err_from_is_err_and c.from_residual-in_err-layout.result c.from_residual-in_err-layout.ensures.1 in
+    let n = steps_needed (length c.args.text.now) in
+    let s = subst (λ (o : Option ℕ). SomeIff o (n < 2 ^ 64) n) c.in_ok-ok_or.ensures.ok_part c.steps_for.ensures in
+    rw (q.1, q.2) (omega (arith, s.1, c.if-branch.false), c.in_err-layout.ensures)
