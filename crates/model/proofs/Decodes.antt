@@ -77,6 +77,10 @@ in_four l at n1 n2 n3 n4 {p} {q} {r} {s} ep eq er es =
 pub stored : {w : Width} {bs : List ℕ} {z : ℤ} → T (leb (2 ^ hbits w) (2 ^ 63)) → Decoded (signed_bytes w) (SFits w) bs z → Decoded (signed_bytes w) (SFits w) bs (to_z w64 (of_z w64 z))
 stored {w} {bs} {z} t d = subst (Decoded (signed_bytes w) (SFits w) bs) (sym (to_z-of_z (fits_64 d.range t))) d
 
+-- and as it is widened first
+pub stored_from : {w : Width} {bs : List ℕ} {z r : ℤ} → T (leb (2 ^ hbits w) (2 ^ 63)) → Decoded (signed_bytes w) (SFits w) bs z → r ≡ to_z w (of_z w z) → Decoded (signed_bytes w) (SFits w) bs (to_z w64 (of_z w64 r))
+stored_from {w} {bs} t d e = stored t (subst (Decoded (signed_bytes w) (SFits w) bs) (sym (e ∙ to_z-of_z d.range)) d)
+
 pub plane_read : (l : List ℕ) (at : ℕ) {a b c d : ℤ} →
     Decoded (signed_bytes w8) (SFits w8) (between at (at + 1) l) a → Decoded (signed_bytes w8) (SFits w8) (between (at + 1) (at + 1 + 1) l) b →
     Decoded (signed_bytes w8) (SFits w8) (between (at + 2) (at + 2 + 1) l) c → Decoded (signed_bytes w32) (SFits w32) (between (at + 3) (at + 3 + 4) l) d →
