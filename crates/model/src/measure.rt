@@ -6,7 +6,7 @@ ghost use Rattle.model.specs.Finds.{Few, Found};
 ghost use Rattle.model.specs.Extents.{Measured, ReadAgain};
 
 use super::fixed::Read;
-use super::parts::{end_of, Face, Part, Piece};
+use super::parts::{Face, Part, Piece, end_of};
 use super::types::{Layout, Misfit};
 
 /// Where a list of parts ends whose number stands at `from`.

@@ -5,7 +5,7 @@ ghost use Rattle.std.specs.Int.{w8, w16, w32, w64};
 ghost use Rattle.model.specs.Format.{count_bytes, signed_bytes};
 ghost use Rattle.std.proofs.Common.{leb→le};
 
-use super::fixed::{array_at, put_array, Fixed, Put, Read};
+use super::fixed::{Fixed, Put, Read, array_at, put_array};
 
 impl Fixed for u16 {
     const SIZE: usize = 2;

@@ -20,7 +20,7 @@ returns-in_err-place c =
     let l = c.args.model.now in
     record {
       found = subst (Found face_bytes InRangeFace l c.args.at) (sym c.from_residual-in_err-place.ensures)
-    (no_edges l c.type_inv.model c.args.at c.in_ok-edges.edges c.in_ok-edges.ensures c.in_err-place.ensures);
+          (no_edges l c.type_inv.model c.args.at c.in_ok-edges.edges c.in_ok-edges.ensures c.in_err-place.ensures);
       once = stands_once face_code l c.args.at;
     }
 
@@ -29,7 +29,7 @@ returns-in_err-corners c =
     let l = c.args.model.now in
     record {
       found = subst (Found face_bytes InRangeFace l c.args.at) (sym c.from_residual-in_err-corners.ensures)
-    (no_place l c.type_inv.model c.args.at c.in_ok-edges.edges c.in_ok-place.place c.in_ok-edges.ensures c.in_ok-place.ensures c.in_err-corners.ensures);
+          (no_place l c.type_inv.model c.args.at c.in_ok-edges.edges c.in_ok-place.place c.in_ok-edges.ensures c.in_ok-place.ensures c.in_err-corners.ensures);
       once = stands_once face_code l c.args.at;
     }
 
@@ -38,6 +38,6 @@ returns c =
     let l = c.args.model.now in
     record {
       found = face_found l c.type_inv.model c.args.at c.in_ok-edges.edges c.in_ok-place.place c.in_ok-corners.corners
-    c.in_ok-edges.ensures c.in_ok-place.ensures c.in_ok-corners.ensures c.list_end-2.result c.list_end-2.ensures;
+          c.in_ok-edges.ensures c.in_ok-place.ensures c.in_ok-corners.ensures c.list_end-2.result c.list_end-2.ensures;
       once = stands_once face_code l c.args.at;
     }
