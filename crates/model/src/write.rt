@@ -18,12 +18,10 @@ fn put_list<T: Put + Copy>(out: &mut [u8], things: &[T]) -> usize
     ensures long { result ≡ 2 + T.SIZE * length things.now }
 {
     (things.len() as u16).put(out);
-    let mut at = u16::SIZE;
-    for thing in things {
-        thing.put(&mut out[at..]);
-        at += T::SIZE;
+    for (i, thing) in things.iter().enumerate() {
+        thing.put(&mut out[u16::SIZE + T::SIZE * i..]);
     }
-    at
+    u16::SIZE + T::SIZE * things.len()
 }
 
 /// Writes a piece, and says how many bytes it has.
