@@ -13,11 +13,8 @@ use super::types::{Layout, Misfit};
 fn parts_end<P: Part>(model: &[u8], from: usize) -> Option<usize>
     ensures { Found (listed w32 P.bytes) (Few P.range w32) model.now from result }
 {
-    let mut at = end_of::<u32>(model, from)?;
-    for _ in 0..u32::read(model, from) {
-        at = P::end(model, at)?;
-    }
-    Some(at)
+    let begin = end_of::<u32>(model, from)?;
+    (0..u32::read(model, from)).try_fold(begin, |at, _| P::end(model, at))
 }
 
 /// Where the parts of the model stand that the bytes are.
