@@ -1,15 +1,15 @@
 -- Numbers as they are written in the bytes of a model, and read again.
-use Rattle.std.proofs.Common.{◌≡◌, ℕ, suc, ◌+◌, ◌*◌, ◌%◌, ◌^◌, ◌<◌, ◌≤◌, T, leb, List, [], ◌∷◌, map, length, ℤ, refl, ap, ◌∙◌, ap₂, mul-suc, arith, leb→le, length-append, to_z-of_z, w8, w64, SFits, to_z, of_z}
+use Rattle.std.proofs.Common.{sym, ◌≡◌, ℕ, suc, ◌+◌, ◌*◌, ◌^◌, ◌<◌, ◌≤◌, T, leb, List, [], ◌∷◌, map, length, ℤ, refl, ap, ◌∙◌, ap₂, mul-suc, arith, leb→le, length-append, to_z-of_z, w64, SFits, to_z, of_z}
 use lib.Signed.{mag}
 use mir.Syntax.{Width}
 use mir.Val.{bytes, hbits}
-use mir.Facts.{Fits-of_z}
+use Rattle.std.specs.Int.{to_le_bytes}
 use Rattle.std.specs.List.{flat_map, AllByRecursion}
 use Rattle.plane.specs.declared.types.Place.{Place}
 use Rattle.plane.specs.declared.types.Plane.{Plane}
 use Rattle.model.specs.Wire.{WirePlace, wire_place, InRangePlace}
 use Rattle.model.specs.Format.{listed, signed_bytes, plane_bytes, place_bytes, count_bytes}
-use Rattle.model.proofs.Digits.{length-low_first}
+use Rattle.model.proofs.Digits.{length-low_first, le_bytes}
 
 pub length-signed_bytes : (w : Width) (z : ℤ) → length (signed_bytes w z) ≡ bytes w
 unfolding signed_bytes
@@ -52,10 +52,11 @@ fits_64 {w} {z} s t = let h : mag z < 2 ^ hbits w = s.sfits in let k : 2 ^ hbits
 pub narrowed : (w : Width) {z : ℤ} → SFits w z → T (leb (2 ^ hbits w) (2 ^ 63)) → to_z w (of_z w (to_z w64 (of_z w64 z))) ≡ z
 narrowed w s t = ap (λ (x : ℤ). to_z w (of_z w x)) (to_z-of_z (fits_64 s t)) ∙ to_z-of_z s
 
--- a number of one byte as it is written
-pub one_byte : {k : List ℕ} (z : ℤ) → SFits w8 z → k ≡ of_z w8 (to_z w8 (of_z w8 z)) ∷ [] → k ≡ signed_bytes w8 z
+-- numbers as the library writes them
+pub count_written : (w : Width) (n : ℕ) → count_bytes w n ≡ to_le_bytes w n
+unfolding count_bytes
+count_written w n = sym (le_bytes w n)
+
+pub signed_written : (w : Width) {z : ℤ} → SFits w z → signed_bytes w z ≡ to_le_bytes w (of_z w (to_z w (of_z w z)))
 unfolding signed_bytes
-one_byte z s e =
-    let f : of_z w8 z < 256 = (Fits-of_z s).fits in
-    let g : of_z w8 z ≡ of_z w8 z % 256 = omega arith in
-    e ∙ ap (λ (x : ℤ). of_z w8 x ∷ []) (to_z-of_z s) ∙ ap (λ (n : ℕ). n ∷ []) g
+signed_written w {z} s = sym (le_bytes w (of_z w z)) ∙ ap (λ (x : ℤ). to_le_bytes w (of_z w x)) (sym (to_z-of_z s))

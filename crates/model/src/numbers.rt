@@ -19,6 +19,7 @@ impl Fixed for u16 {
     ghost small = { leb→le 2 32 tt };
 }
 
+#[tactic(auto, using(crate::proofs::Codes::count_written))]
 impl Put for u16 {
     fn put(self, out: &mut [u8]) {
         put_array(out, u16::to_le_bytes(self));
@@ -43,6 +44,7 @@ impl Fixed for u32 {
     ghost small = { leb→le 4 32 tt };
 }
 
+#[tactic(auto, using(crate::proofs::Codes::count_written))]
 impl Put for u32 {
     fn put(self, out: &mut [u8]) {
         put_array(out, u32::to_le_bytes(self));
@@ -67,6 +69,7 @@ impl Fixed for i8 {
     ghost small = { leb→le 1 32 tt };
 }
 
+#[tactic(auto, using(crate::proofs::Codes::signed_written))]
 impl Put for i8 {
     fn put(self, out: &mut [u8]) {
         put_array(out, i8::to_le_bytes(self));
@@ -91,6 +94,7 @@ impl Fixed for i32 {
     ghost small = { leb→le 4 32 tt };
 }
 
+#[tactic(auto, using(crate::proofs::Codes::signed_written))]
 impl Put for i32 {
     fn put(self, out: &mut [u8]) {
         put_array(out, i32::to_le_bytes(self));
@@ -115,6 +119,7 @@ impl Fixed for i64 {
     ghost small = { leb→le 8 32 tt };
 }
 
+#[tactic(auto, using(crate::proofs::Codes::signed_written))]
 impl Put for i64 {
     fn put(self, out: &mut [u8]) {
         put_array(out, i64::to_le_bytes(self));
