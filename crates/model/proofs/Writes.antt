@@ -1,11 +1,12 @@
 -- Writes to a part of a list that is lent on, one behind the other.
-use Rattle.std.proofs.Common.{◌≡◌, ℕ, ◌+◌, ◌-◌, ◌*◌, ◌<◌, ◌≤◌, List, [], ◌∷◌, ◌++◌, map, length, get_or, take, drop, sym, refl, ap, ◌∙◌, subst, ap₂, append_assoc, append-nil, mul-suc, arith}
+use Rattle.std.proofs.Common.{◌≡◌, ℕ, ◌+◌, ◌-◌, ◌*◌, ◌<◌, ◌≤◌, List, [], ◌∷◌, ◌++◌, map, length, get_or, take, drop, sym, ap, ◌∙◌, subst, ap₂, append_assoc, append-nil, mul-suc, arith}
 use lib.ListN.{length-map}
 use borrow.Rule.Slice.PartMut.{put_mid}
 use Rattle.std.specs.List.{flat_map}
 use mir.Syntax.{Width}
 use Rattle.model.specs.Format.{count_bytes, listed}
 use Rattle.std.proofs.lemmas.Slice.{drop-append-drop}
+use Rattle.std.proofs.lemmas.List.Folds.{flat_map-map}
 use Rattle.std.proofs.lemmas.List.{flat_map_more, take_all, take_more, drop_all, drop-drop, take_at, drop_at, length-drop, length-append, take_rest}
 
 -- the part of a list from a on, as it is lent
@@ -72,13 +73,9 @@ listing_all {X} f k xs {m} {bs} {m1} {m2} {a} {i} v w l =
 pub room_left : (a : ℕ) (m : List ℕ) (k : ℕ) → a + k ≤ length m → k ≤ length (part a m)
 room_left a m k h = subst (λ (l : List ℕ). k ≤ length l) (sym (take_rest m a)) (omega (arith, length-drop a m))
 
-flat_map-map : {X Y : Type 0} (f : Y → List ℕ) (g : X → Y) (xs : List X) → flat_map (λ x. f (g x)) xs ≡ flat_map f (map g xs)
-flat_map-map f g [] = refl
-flat_map-map f g (x ∷ xs) = ap (λ (l : List ℕ). f (g x) ++ l) (flat_map-map f g xs)
-
 pub listed-map : {X Y : Type 0} (w : Width) (f : Y → List ℕ) (g : X → Y) (xs : List X) → listed w (λ x. f (g x)) xs ≡ listed w f (map g xs)
 unfolding listed
-listed-map w f g xs = ap₂ (λ (k : ℕ) (l : List ℕ). count_bytes w k ++ l) (sym (length-map xs g)) (flat_map-map f g xs)
+listed-map w f g xs = ap₂ (λ (k : ℕ) (l : List ℕ). count_bytes w k ++ l) (sym (length-map xs g)) (sym (flat_map-map f g xs))
 
 pub regroup₄ : (a b c d : List ℕ) → ((a ++ b) ++ c) ++ d ≡ a ++ (b ++ (c ++ d))
 regroup₄ a b c d = simp append_assoc

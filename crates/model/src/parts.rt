@@ -10,6 +10,7 @@ use super::types::RawPlace;
 use plane::types::Plane;
 
 /// A kind of part.
+// A byte of a model is a plain number, as in a layout: with a cursor each clause would say too that its model is the same.
 pub trait Part {
     // What its bytes mean.
     ghost Thing: { Type 0 };
