@@ -16,6 +16,7 @@ pub trait Fixed {
     // What can be written: each number fits its bytes.
     ghost range: { Self → Type 0 };
 
+    // Small enough that the length of a list of them fits a number.
     ghost small: { SIZE ≤ 32 };
 }
 
