@@ -1,15 +1,15 @@
 -- Numbers as they are written in the bytes of a model, and read again.
-use Rattle.std.proofs.Common.{◌≡◌, ℕ, suc, ◌+◌, ◌*◌, ◌%◌, ◌^◌, ◌<◌, ◌≤◌, T, leb, List, [], ◌∷◌, map, length, get_or, ℤ, sym, refl, ap, ◌∙◌, ap₂, mul-suc, arith, leb→le, length-append, to_z-of_z, w8, w32, w64, SFits, to_z, of_z}
+use Rattle.std.proofs.Common.{sym, ◌≡◌, ℕ, suc, ◌+◌, ◌*◌, ◌^◌, ◌<◌, ◌≤◌, T, leb, List, [], ◌∷◌, map, length, ℤ, refl, ap, ◌∙◌, ap₂, mul-suc, arith, leb→le, length-append, to_z-of_z, w64, SFits, to_z, of_z}
 use lib.Signed.{mag}
 use mir.Syntax.{Width}
 use mir.Val.{bytes, hbits}
-use mir.Facts.{Fits-of_z}
+use Rattle.std.specs.Int.{to_le_bytes}
 use Rattle.std.specs.List.{flat_map, AllByRecursion}
 use Rattle.plane.specs.declared.types.Place.{Place}
 use Rattle.plane.specs.declared.types.Plane.{Plane}
 use Rattle.model.specs.Wire.{WirePlace, wire_place, InRangePlace}
 use Rattle.model.specs.Format.{listed, signed_bytes, plane_bytes, place_bytes, count_bytes}
-use Rattle.model.proofs.Digits.{by_weight, from_weight, length-low_first}
+use Rattle.model.proofs.Digits.{length-low_first, le_bytes}
 
 pub length-signed_bytes : (w : Width) (z : ℤ) → length (signed_bytes w z) ≡ bytes w
 unfolding signed_bytes
@@ -48,26 +48,15 @@ w_small (q ∷ qs) h = (h.0.w.sfits, w_small qs h.1)
 pub fits_64 : {w : Width} {z : ℤ} → SFits w z → T (leb (2 ^ hbits w) (2 ^ 63)) → SFits w64 z
 fits_64 {w} {z} s t = let h : mag z < 2 ^ hbits w = s.sfits in let k : 2 ^ hbits w ≤ 2 ^ 63 = leb→le (2 ^ hbits w) (2 ^ 63) t in record { sfits = omega arith }
 
--- a number cast down from 64 bits, and up to them
-narrowed : (w : Width) {z : ℤ} → SFits w z → T (leb (2 ^ hbits w) (2 ^ 63)) → to_z w (of_z w (to_z w64 (of_z w64 z))) ≡ z
+-- a number cast down from 64 bits
+pub narrowed : (w : Width) {z : ℤ} → SFits w z → T (leb (2 ^ hbits w) (2 ^ 63)) → to_z w (of_z w (to_z w64 (of_z w64 z))) ≡ z
 narrowed w s t = ap (λ (x : ℤ). to_z w (of_z w x)) (to_z-of_z (fits_64 s t)) ∙ to_z-of_z s
 
-pub widened : (w : Width) {z : ℤ} → SFits w z → T (leb (2 ^ hbits w) (2 ^ 63)) → to_z w64 (of_z w64 (to_z w (of_z w z))) ≡ z
-widened w s t = ap (λ (x : ℤ). to_z w64 (of_z w64 x)) (to_z-of_z s) ∙ to_z-of_z (fits_64 s t)
+-- numbers as the library writes them
+pub count_written : (w : Width) (n : ℕ) → count_bytes w n ≡ to_le_bytes w n
+unfolding count_bytes
+count_written w n = sym (le_bytes w n)
 
-pub one_byte : {k : List ℕ} (z : ℤ) → SFits w8 z → k ≡ of_z w8 (to_z w8 (of_z w8 (to_z w64 (of_z w64 z)))) ∷ [] → k ≡ signed_bytes w8 z
+pub signed_written : (w : Width) {z : ℤ} → SFits w z → signed_bytes w z ≡ to_le_bytes w (of_z w (to_z w (of_z w z)))
 unfolding signed_bytes
-one_byte z s e =
-    let f : of_z w8 z < 256 = (Fits-of_z s).fits in
-    let g : of_z w8 z ≡ of_z w8 z % 256 = omega arith in
-    e ∙ ap (λ (x : ℤ). of_z w8 x ∷ []) (narrowed w8 s tt) ∙ ap (λ (n : ℕ). n ∷ []) g
-
-pub four_bytes : {k : List ℕ} (z : ℤ) → SFits w32 z → (let n = of_z w32 (to_z w32 (of_z w32 (to_z w64 (of_z w64 z)))) in k ≡ (n % 256) ∷ from_weight 3 256 n) → k ≡ signed_bytes w32 z
-unfolding signed_bytes
-four_bytes z s e = e ∙ sym (by_weight 3 _) ∙ ap (signed_bytes w32) (narrowed w32 s tt)
-
--- a plane's bytes, put together
-pub plane_made : (p : Plane) {k l m n : List ℕ} → k ≡ signed_bytes w8 p.a → l ≡ signed_bytes w8 p.b → m ≡ signed_bytes w8 p.c → n ≡ signed_bytes w32 p.d →
-    get_or k 0 0 ∷ get_or l 0 0 ∷ get_or m 0 0 ∷ get_or n 0 0 ∷ get_or n 1 0 ∷ get_or n 2 0 ∷ get_or n 3 0 ∷ [] ≡ plane_bytes p
-unfolding plane_bytes signed_bytes
-plane_made p a b c d = rw (a, b, c, d)
+signed_written w {z} s = sym (le_bytes w (of_z w z)) ∙ ap (λ (x : ℤ). to_le_bytes w (of_z w x)) (sym (to_z-of_z s))

@@ -1,14 +1,15 @@
 -- Numbers, planes and places read from bytes.
-use Rattle.std.proofs.Common.{◌≡◌, ℕ, suc, ◌+◌, ◌-◌, ◌^◌, ◌<◌, ◌≤◌, T, leb, List, [], ◌++◌, length, take, drop, ℤ, sym, ap, ◌∙◌, subst, ap₂, arith, drop-drop, take-add, to_z-of_z, w8, w32, w64, Fits, SFits, to_z, of_z}
+use Rattle.std.proofs.Common.{◌≡◌, ℕ, ◌+◌, ◌-◌, ◌^◌, ◌<◌, ◌≤◌, T, leb, List, [], ◌++◌, length, take, drop, ℤ, sym, ap, ◌∙◌, subst, ap₂, arith, drop-drop, take-add, to_z-of_z, w8, w32, w64, Fits, SFits, to_z, of_z}
 use mir.Syntax.{Width}
 use mir.Val.{bytes, bits, hbits}
 use mir.Facts.{of_z-to_z, sfits_to_z}
 use Rattle.std.proofs.lemmas.List.Edits.{length-between}
+use Rattle.std.specs.Int.{to_le_bytes, from_le_bytes}
 use Rattle.std.specs.List.{between}
 use Rattle.model.specs.Wire.{InRangePlane, InRangePlace}
 use Rattle.model.specs.Format.{low_first, count_bytes, signed_bytes, plane_bytes, place_bytes}
 use Rattle.model.specs.Finds.{Decoded}
-use Rattle.model.proofs.Digits.{Bytes, bytes_drop, bytes_take, value, value_below, low_first-value, weighed, weighed_all}
+use Rattle.model.proofs.Digits.{Bytes, bytes_drop, bytes_take, value, value_below, low_first-value, le_bytes}
 use Rattle.model.proofs.Coding.{Code, code_count, code_signed, powers}
 use Rattle.model.proofs.Codes.{fits_64}
 use Rattle.model.proofs.Things.{plane_code, place_code}
@@ -16,7 +17,8 @@ use Rattle.model.proofs.Things.{plane_code, place_code}
 pub decoded : {X : Type 0} {f : X → List ℕ} {R : X → Type 0} {n : ℕ} {bs : List ℕ} → Code f R n → (x : X) → R x → bs ≡ f x → Decoded f R bs x
 decoded k x h e = record { range = h; are = e; only = λ y g z. (k.apart y x [] [] g h (ap (λ (a : List ℕ). a ++ []) (sym z ∙ e))).0 }
 
-module _ (w : Width) (k : ℕ) (n : bytes w ≡ suc k) (l : List ℕ) (at : ℕ) (b : Bytes l) (h : at + bytes w ≤ length l) where
+-- what the library reads from the bytes of a number that it writes
+module _ (w : Width) (again : (n : ℕ) → n < 2 ^ bits w → from_le_bytes w (to_le_bytes w n) ≡ n) (l : List ℕ) (at : ℕ) (b : Bytes l) (h : at + bytes w ≤ length l) where
   part : List ℕ
   part = between at (at + bytes w) l
 
@@ -34,21 +36,21 @@ module _ (w : Width) (k : ℕ) (n : bytes w ≡ suc k) (l : List ℕ) (at : ℕ)
   written : part ≡ low_first (bytes w) (value part)
   written = sym (low_first-value part are_bytes) ∙ ap (λ (i : ℕ). low_first i (value part)) long
 
-  is_value : {bs : List ℕ} → bs ≡ part → weighed k bs ≡ value part
-  is_value e = ap (weighed k) e ∙ weighed_all k part (long ∙ n)
+  is_value : {bs : List ℕ} → bs ≡ part → from_le_bytes w bs ≡ value part
+  is_value e = ap (from_le_bytes w) (e ∙ written ∙ sym (le_bytes w (value part))) ∙ again (value part) small
 
-  pub count_read : {bs : List ℕ} {r : ℕ} → bs ≡ between at (at + bytes w) l → r ≡ weighed k bs → Decoded (count_bytes w) (λ (i : ℕ). i < 2 ^ bits w) (between at (at + bytes w) l) r
+  pub count_read : {bs : List ℕ} {r : ℕ} → bs ≡ between at (at + bytes w) l → r ≡ from_le_bytes w bs → Decoded (count_bytes w) (λ (i : ℕ). i < 2 ^ bits w) (between at (at + bytes w) l) r
   unfolding count_bytes part
   count_read {r = r} e v =
       let z : value part ≡ r = sym (v ∙ is_value e) in
       decoded (code_count w) r (subst (λ (i : ℕ). i < 2 ^ bits w) z small) (written ∙ ap (low_first (bytes w)) z)
 
-  pub signed_read : {bs : List ℕ} {r : ℤ} → bs ≡ between at (at + bytes w) l → r ≡ to_z w (weighed k bs) → Decoded (signed_bytes w) (SFits w) (between at (at + bytes w) l) r
+  pub signed_read : {bs : List ℕ} {r : ℤ} → SFits w r → bs ≡ between at (at + bytes w) l → r ≡ to_z w (from_le_bytes w bs) → Decoded (signed_bytes w) (SFits w) (between at (at + bytes w) l) (to_z w (of_z w r))
   unfolding signed_bytes part
-  signed_read {r = r} e v =
+  signed_read {r = r} s e v =
       let f : Fits w (value part) = record { fits = small } in
-      let z : to_z w (value part) ≡ r = sym (v ∙ ap (to_z w) (is_value e)) in
-      decoded (code_signed w) r (subst (SFits w) z (sfits_to_z f)) (written ∙ ap (low_first (bytes w)) (sym (of_z-to_z f) ∙ ap (of_z w) z))
+      let z : to_z w (value part) ≡ to_z w (of_z w r) = sym (to_z-of_z s ∙ v ∙ ap (to_z w) (is_value e)) in
+      decoded (code_signed w) (to_z w (of_z w r)) (subst (SFits w) z (sfits_to_z f)) (written ∙ ap (low_first (bytes w)) (sym (of_z-to_z f) ∙ ap (of_z w) z))
 
 -- a part of a list, in two
 between_joint : (l : List ℕ) (a b c : ℕ) → a ≤ b → b ≤ c → between a c l ≡ between a b l ++ between b c l
@@ -76,6 +78,10 @@ in_four l at n1 n2 n3 n4 {p} {q} {r} {s} ep eq er es =
 -- a signed number read, as it is put in its place
 pub stored : {w : Width} {bs : List ℕ} {z : ℤ} → T (leb (2 ^ hbits w) (2 ^ 63)) → Decoded (signed_bytes w) (SFits w) bs z → Decoded (signed_bytes w) (SFits w) bs (to_z w64 (of_z w64 z))
 stored {w} {bs} {z} t d = subst (Decoded (signed_bytes w) (SFits w) bs) (sym (to_z-of_z (fits_64 d.range t))) d
+
+-- and as it is widened first
+pub stored_from : {w : Width} {bs : List ℕ} {z r : ℤ} → T (leb (2 ^ hbits w) (2 ^ 63)) → Decoded (signed_bytes w) (SFits w) bs z → r ≡ to_z w (of_z w z) → Decoded (signed_bytes w) (SFits w) bs (to_z w64 (of_z w64 r))
+stored_from {w} {bs} t d e = stored t (subst (Decoded (signed_bytes w) (SFits w) bs) (sym (e ∙ to_z-of_z d.range)) d)
 
 pub plane_read : (l : List ℕ) (at : ℕ) {a b c d : ℤ} →
     Decoded (signed_bytes w8) (SFits w8) (between at (at + 1) l) a → Decoded (signed_bytes w8) (SFits w8) (between (at + 1) (at + 1 + 1) l) b →

@@ -1,6 +1,9 @@
 -- Numbers and their bytes, the lowest first.
-use Rattle.std.proofs.Common.{◌≡◌, ℕ, zero, suc, ◌+◌, ◌*◌, ◌/◌, ◌%◌, ◌^◌, ◌<◌, List, [], ◌∷◌, ◌++◌, length, get_or, take, drop, sym, refl, ap, ◌∙◌, subst, ap₂, add-zero, mul_assoc, pow-suc, arith, length-take-le, get_or-drop, take_all, take-suc, w8, Fits}
+use Rattle.std.proofs.Common.{◌≡◌, ℕ, zero, suc, ◌+◌, ◌*◌, ◌/◌, ◌%◌, ◌^◌, ◌<◌, List, [], ◌∷◌, ◌++◌, length, get_or, take, drop, sym, refl, ap, ◌∙◌, subst, pow-suc, arith, get_or-drop, w8, Fits}
 use native.Mathlib.Nat.{div-div-eq-div-mul}
+use mir.Syntax.{Width, w16, w32, w64, w128}
+use mir.Val.{bytes}
+use Rattle.std.specs.Int.{to_le_bytes}
 use Rattle.std.proofs.lemmas.Nat.{div_below}
 use Rattle.model.specs.Format.{low_first}
 
@@ -59,7 +62,7 @@ value_below (b ∷ bs) h =
     omega arith
 
 -- the k bytes of n from the one of weight w on
-abbrev pub from_weight : ℕ → ℕ → ℕ → List ℕ
+abbrev from_weight : ℕ → ℕ → ℕ → List ℕ
 from_weight zero w n = []
 from_weight (suc k) w n = (n / w % 256) ∷ from_weight k (w * 256) n
 
@@ -69,34 +72,13 @@ low_first_from (suc k) w n =
     ap (λ (x : List ℕ). (n / w % 256) ∷ x) (ap (low_first k) (div-div-eq-div-mul n w 256) ∙ low_first_from k (w * 256) n)
 
 -- a number's bytes, each by its weight
-pub by_weight : (k n : ℕ) → low_first (suc k) n ≡ (n % 256) ∷ from_weight k 256 n
+by_weight : (k n : ℕ) → low_first (suc k) n ≡ (n % 256) ∷ from_weight k 256 n
 by_weight k n = ap (λ (x : List ℕ). (n % 256) ∷ x) (low_first_from k 256 n)
 
-value-append : (xs ys : List ℕ) → value (xs ++ ys) ≡ value xs + value ys * 256 ^ length xs
-value-append [] ys = omega arith
-value-append (x ∷ xs) ys =
-    let e : 256 ^ suc (length xs) ≡ 256 ^ length xs * 256 = pow-suc 256 (length xs) in
-    let m : value ys * (256 ^ length xs * 256) ≡ (value ys * 256 ^ length xs) * 256 = sym (mul_assoc (value ys) (256 ^ length xs) 256) in
-    let r : value (xs ++ ys) ≡ value xs + value ys * 256 ^ length xs = value-append xs ys in
-    let z : value ys * 256 ^ suc (length xs) ≡ (value ys * 256 ^ length xs) * 256 = ap (λ (n : ℕ). value ys * n) e ∙ m in
-    omega arith
-
--- the number of the bytes from the first to that at k, each times its weight
-abbrev pub weighed : ℕ → List ℕ → ℕ
-weighed zero bs = get_or bs 0 0
-weighed (suc k) bs = weighed k bs + get_or bs (suc k) 0 * 256 ^ suc k
-
-weighed_taken : (k : ℕ) (bs : List ℕ) → k < length bs → weighed k bs ≡ value (take (suc k) bs)
-weighed_taken zero [] h = absurd (omega arith)
-weighed_taken zero (b ∷ bs) h = omega arith
-weighed_taken (suc k) bs h =
-    let b = get_or bs (suc k) 0 in
-    let l : length (take (suc k) bs) ≡ suc k = length-take-le (suc k) bs (omega arith) in
-    let e : value (take (suc k) bs ++ b ∷ []) ≡ value (take (suc k) bs) + (b + 256 * 0) * 256 ^ length (take (suc k) bs) = value-append (take (suc k) bs) (b ∷ []) in
-    let z : (b + 256 * 0) * 256 ^ length (take (suc k) bs) ≡ b * 256 ^ suc k = ap₂ (λ (m n : ℕ). m * 256 ^ n) (add-zero b) l in
-    ap (λ (n : ℕ). n + b * 256 ^ suc k) (weighed_taken k bs (omega arith))
-    ∙ sym (e ∙ ap (λ (n : ℕ). value (take (suc k) bs) + n) z)
-    ∙ ap value (sym (take-suc bs (suc k) 0 h))
-
-pub weighed_all : (k : ℕ) (bs : List ℕ) → length bs ≡ suc k → weighed k bs ≡ value bs
-weighed_all k bs h = weighed_taken k bs (omega arith) ∙ ap value (take_all (suc k) bs (omega arith))
+-- the library's bytes of a number
+pub le_bytes : (w : Width) (n : ℕ) → to_le_bytes w n ≡ low_first (bytes w) n
+le_bytes w8 n = sym (by_weight 0 n)
+le_bytes w16 n = sym (by_weight 1 n)
+le_bytes w32 n = sym (by_weight 3 n)
+le_bytes w64 n = sym (by_weight 7 n)
+le_bytes w128 n = sym (by_weight 15 n)

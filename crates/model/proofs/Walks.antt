@@ -1,6 +1,6 @@
 -- How to walk over the bytes of a model: where its parts stand, and that what is read there are they.
 use Rattle.std.proofs.Common.{◌≡◌, ℕ, zero, suc, ◌+◌, ◌*◌, ◌<◌, ◌≤◌, List, [], ◌∷◌, ◌++◌, length, get_or, drop, Some, None, Option, sym, refl, ap, ◌∙◌, mul-suc, arith, w16}
-use Rattle.std.proofs.lemmas.List.{drop_more, drop_all}
+use Rattle.std.proofs.lemmas.List.{drop_all}
 use Rattle.std.specs.List.{between, flat_map}
 use Rattle.model.specs.Wire.{WirePlace, WirePiece, WireFace}
 use Rattle.model.specs.Format.{count_bytes, listed, plane_bytes, place_bytes, piece_bytes, face_bytes}
@@ -18,16 +18,6 @@ what_is_read {x = x} h s d = sym (d.only x h s.are)
 pub what_is_found : {X : Type 0} {f : X → List ℕ} {R : X → Type 0} {n : ℕ} → Code f R n → {l : List ℕ} {at end : ℕ} {x : X} → R x → Stands l at (f x) end → (r : Option ℕ) → Found f R l at r → r ≡ Some end
 what_is_found k {x = x} h s None p = absurd (p x _ h s)
 what_is_found k h s (Some e) p = ap Some (one_thing k p.1 h p.2 s).end
-
--- the i-th of a list of things, and those behind it
-pub record Next {X : Type 0} (f : X → List ℕ) (l : List ℕ) (at : ℕ) (x : X) (xs : List X) (end : ℕ) : Type 0 where
-  pub here : Stands l at (f x) (at + length (f x))
-  pub rest : Stands l (at + length (f x)) (flat_map f xs) end
-
-pub next_of : {X : Type 0} (f : X → List ℕ) (xs : List X) (i : ℕ) (d : X) {l : List ℕ} {at end : ℕ} → i < length xs → Stands l at (flat_map f (drop i xs)) end → Next f l at (get_or xs i d) (drop (i + 1) xs) end
-next_of f xs i d h s =
-    let u = stands_split (f (get_or xs i d)) (flat_map f (drop (i + 1) xs)) (stands_as refl (ap (flat_map f) (drop_more xs i d h)) refl s) in
-    record { here = u.first; rest = u.second }
 
 -- behind the last
 pub none_left : {X : Type 0} (f : X → List ℕ) (xs : List X) (i : ℕ) {l : List ℕ} {at end : ℕ} → length xs ≤ i → Stands l at (flat_map f (drop i xs)) end → at ≡ end

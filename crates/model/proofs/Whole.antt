@@ -1,11 +1,12 @@
 -- How far the model reaches that bytes begin with.
-use Rattle.std.proofs.Common.{◌≡◌, ℕ, zero, suc, ◌+◌, ◌-◌, ◌^◌, ◌<◌, ◌≤◌, ◌⊎◌, List, [], ◌++◌, length, take, drop, replicate, Some, None, Option, sym, refl, ap, ◌∙◌, subst, inl, inr, append-nil, zero-le, le_antisymm, zero-add, arith, length-append, length-drop, take-append-drop, take_all, w32}
+use Rattle.std.proofs.Common.{◌≡◌, ℕ, zero, suc, ◌+◌, ◌-◌, ◌^◌, ◌<◌, ◌≤◌, ◌⊎◌, List, [], ◌++◌, length, take, drop, replicate, Some, None, Option, Ok, Err, Result, sym, refl, ap, ◌∙◌, subst, inl, inr, append-nil, zero-le, le_antisymm, zero-add, arith, length-append, length-drop, take-append-drop, take_all, w32}
 use native.Mathlib.Nat.{sub-zero}
 use Rattle.std.proofs.lemmas.List.{take_at, take-append-le, length-replicate}
 use Rattle.std.proofs.lemmas.Bool.{cases_lt}
 use Rattle.std.specs.List.{between}
-use Rattle.model.specs.declared.types.Extent.{Extent}
-use Rattle.model.specs.declared.types.Extent.TheVariants.{Whole, Short, Long}
+use Rattle.model.specs.declared.types.Layout.{Layout}
+use Rattle.model.specs.declared.types.Misfit.{Misfit}
+use Rattle.model.specs.declared.types.Misfit.TheVariants.{Short, Long}
 use Rattle.model.specs.Wire.{WireModel, InRangePiece, InRangeFace, InRange}
 use Rattle.model.specs.Format.{count_bytes, listed, piece_bytes, face_bytes, model_bytes}
 use Rattle.model.specs.Finds.{Few, Decoded, Stands, Found}
@@ -42,7 +43,7 @@ grows {X} {f} {R} {n} k l b none =
     go x h z r e (inr c) = absurd (none x (drop (length (f x)) l) h (begins_longer (f x) l r z (sym e) c))
 
 -- no model stands at the front
-pub short_measured : (l : List ℕ) → Bytes l → Found model_bytes InRange l 0 None → Measured l Short
+pub short_measured : (l : List ℕ) → Bytes l → Found model_bytes InRange l 0 None → Measured l (Err Short)
 short_measured l b p =
     let none : NoModel l = λ m rest h e. p m (length (model_bytes m)) h (front_stands l (model_bytes m) rest 0 (length (model_bytes m)) zero-le e (zero-add (length (model_bytes m)))) in
     let g = grows model_code l b none in
@@ -59,7 +60,7 @@ model_found l middle p r q = found_as model_as l 0 r (found_behind (code_listed 
 front_model : (l : List ℕ) (end : ℕ) (m : WireModel) → InRange m → Stands l 0 (model_bytes m) end → Decoded model_bytes InRange (take end l) m
 front_model l end m h s = decoded model_code m h (ap (λ (n : ℕ). take n l) (sym (sub-zero end)) ∙ s.are)
 
-pub long_measured : (l : List ℕ) (end : ℕ) → Found model_bytes InRange l 0 (Some end) → end < length l → Measured l (Long end)
+pub long_measured : (l : List ℕ) (end : ℕ) → Found model_bytes InRange l 0 (Some end) → end < length l → Measured l (Err (Long end))
 long_measured l end p h = (h, (p.0, front_model l end p.0 p.1 p.2))
 
 pub number_within : {X : Type 0} (f : X → List ℕ) (R : X → Type 0) (l : List ℕ) (at end : ℕ) → Found (listed w32 f) (Few R w32) l at (Some end) → at + 4 ≤ length l
@@ -67,7 +68,7 @@ number_within f R l at end p = (listed_stands w32 f p.0 p.2).number.within
 
 pub whole_measured : (l : List ℕ) (middle end n k : ℕ) → Found (listed w32 piece_bytes) (Few InRangePiece w32) l 0 (Some middle) → Found (listed w32 face_bytes) (Few InRangeFace w32) l middle (Some end) →
     length l ≤ end → Decoded (count_bytes w32) (λ (i : ℕ). i < 2 ^ 32) (between 0 4 l) n → Decoded (count_bytes w32) (λ (i : ℕ). i < 2 ^ 32) (between middle (middle + 4) l) k →
-    Measured l (Whole (record { pieces = n; middle = middle; faces = k }))
+    Measured l (Ok (record { pieces = n; middle = middle; faces = k }))
 unfolding model_bytes
 whole_measured l middle end n k p q h dn dk =
     let c = listed_stands w32 piece_bytes p.0 p.2 in
@@ -84,10 +85,10 @@ whole_measured l middle end n k p q h dn dk =
       },
     )
 
-pub read_again : (l : List ℕ) (r : Extent) → Measured l r → ReadAgain l r
-read_again l (Whole k) p = λ n h e. (k, refl, subst (λ (x : WireModel). Laid l x k) (sym (p.1.only n h e)) p.2)
-read_again l Short p = λ n h e. absurd (p.0 n [] h (e ∙ sym (append-nil (model_bytes n))))
-read_again l (Long i) p = λ n h e. absurd (too_long n h e)
+pub read_again : (l : List ℕ) (r : Result Layout Misfit) → Measured l r → ReadAgain l r
+read_again l (Ok k) p = λ n h e. (k, refl, subst (λ (x : WireModel). Laid l x k) (sym (p.1.only n h e)) p.2)
+read_again l (Err Short) p = λ n h e. absurd (p.0 n [] h (e ∙ sym (append-nil (model_bytes n))))
+read_again l (Err (Long i)) p = λ n h e. absurd (too_long n h e)
   where
     too_long : (n : WireModel) → InRange n → l ≡ model_bytes n → ⊥
     too_long n h e =

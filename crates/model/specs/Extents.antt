@@ -1,9 +1,9 @@
 -- How far a model reaches in bytes that may be anything.
-use Rattle.std.specs.Prelude.{◌≡◌, ℕ, ◌+◌, ◌<◌, List, ◌++◌, length, take, ◌≢◌}
+use Rattle.std.specs.Prelude.{◌≡◌, ℕ, ◌+◌, ◌<◌, List, ◌++◌, length, take, ◌≢◌, Ok, Err, Result}
 use Rattle.std.specs.List.{flat_map}
 use Rattle.model.specs.declared.types.Layout.{Layout}
-use Rattle.model.specs.declared.types.Extent.{Extent}
-use Rattle.model.specs.declared.types.Extent.TheVariants.{Whole, Short, Long}
+use Rattle.model.specs.declared.types.Misfit.{Misfit}
+use Rattle.model.specs.declared.types.Misfit.TheVariants.{Short, Long}
 use Rattle.model.specs.Wire.{WireModel, InRange}
 use Rattle.model.specs.Format.{piece_bytes, face_bytes, model_bytes}
 use Rattle.model.specs.Finds.{Decoded, Stands}
@@ -27,11 +27,11 @@ pub record Unfinished (l : List ℕ) : Type 0 where
   pub are : l ++ more ≡ model_bytes model
 
 -- what is said of bytes
-abbrev pub Measured : List ℕ → Extent → Type 0
-Measured l (Whole k) = (m : WireModel) × Decoded model_bytes InRange l m × Laid l m k
-Measured l Short = NoModel l × Unfinished l
-Measured l (Long p) = (p < length l) × ((m : WireModel) × Decoded model_bytes InRange (take p l) m)
+abbrev pub Measured : List ℕ → Result Layout Misfit → Type 0
+Measured l (Ok k) = (m : WireModel) × Decoded model_bytes InRange l m × Laid l m k
+Measured l (Err Short) = NoModel l × Unfinished l
+Measured l (Err (Long p)) = (p < length l) × ((m : WireModel) × Decoded model_bytes InRange (take p l) m)
 
 -- what was written is found again: of the bytes of a model it is said that they are one, and where its parts stand
-abbrev pub ReadAgain : List ℕ → Extent → Type 0
-ReadAgain l r = (m : WireModel) → InRange m → l ≡ model_bytes m → (k : Layout) × (r ≡ Whole k) × Laid l m k
+abbrev pub ReadAgain : List ℕ → Result Layout Misfit → Type 0
+ReadAgain l r = (m : WireModel) → InRange m → l ≡ model_bytes m → (k : Layout) × (r ≡ Ok k) × Laid l m k

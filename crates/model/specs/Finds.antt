@@ -25,6 +25,10 @@ pub record Stands (l : List ℕ) (at : ℕ) (bs : List ℕ) (end : ℕ) : Type 0
 abbrev pub Found : {X : Type 0} → (X → List ℕ) → (X → Type 0) → List ℕ → ℕ → Option ℕ → Type 0
 Found {X} f R l at r = MatchOption r ((x : X) (end : ℕ) → R x → Stands l at (f x) end → ⊥) (λ end. (x : X) × R x × Stands l at (f x) end)
 
+-- no two things in range stand at one place
+abbrev pub StandsOnce : {X : Type 0} → (X → List ℕ) → (X → Type 0) → List ℕ → ℕ → Type 0
+StandsOnce {X} f R l at = (x y : X) (a b : ℕ) → R x → R y → Stands l at (f x) a → Stands l at (f y) b → x ≡ y
+
 -- where n bytes from `at` on end; none if there are fewer
 abbrev pub Skipped : List ℕ → ℕ → ℕ → Option ℕ → Type 0
 Skipped l at n r = MatchOption r (length l < at + n) (λ end. (end ≡ at + n) × (end ≤ length l))

@@ -2,8 +2,11 @@
 
 #![tactic(auto)]
 
+pub mod fixed;
 pub mod laws;
 pub mod measure;
-pub mod read;
+pub mod numbers;
+pub mod parts;
+pub mod places;
 pub mod types;
 pub mod write;

@@ -1,40 +1,61 @@
-use Rattle.std.proofs.Common.{Some, None}
+use Rattle.std.proofs.Common.{◌≡◌, ℕ, List, Ok, Err, Some, None, Option, sym, subst, w32, rules}
 use Rattle.model.specs.declared.types.Layout.{Layout}
-use Rattle.model.specs.declared.types.Extent.TheVariants.{Whole, Short, Long}
+use Rattle.model.specs.declared.types.Misfit.TheVariants.{Short, Long}
 use Rattle.model.specs.Wire.{InRangePiece, InRangeFace}
-use Rattle.model.specs.Format.{piece_bytes, face_bytes}
+use Rattle.model.specs.Format.{listed, piece_bytes, face_bytes}
+use Rattle.model.specs.Finds.{Few, Found}
+use Rattle.model.specs.Extents.{Measured, ReadAgain}
 use Rattle.model.proofs.Whole.{no_pieces, model_found, number_within, short_measured, long_measured, whole_measured, read_again}
 use Rattle.model.proofs.measure.extent.Goals as goal
 
-pub returns-in_default : goal.returns-in_default
-returns-in_default c =
-    let l = c.args.model.now in
-    let m = short_measured l c.type_inv.model (no_pieces l c.in_default.ensures) in
-    record { measured = m; again = read_again l Short m }
+-- what is found, as `ok_or` tells it
+pieces_as : (l : List ℕ) {r s : Option ℕ} → r ≡ s → Found (listed w32 piece_bytes) (Few InRangePiece w32) l 0 r → Found (listed w32 piece_bytes) (Few InRangePiece w32) l 0 s
+pieces_as l e p = subst (Found (listed w32 piece_bytes) (Few InRangePiece w32) l 0) e p
 
-pub returns-in_default-faces_end : goal.returns-in_default-faces_end
-returns-in_default-faces_end c =
+faces_as : (l : List ℕ) (at : ℕ) {r s : Option ℕ} → r ≡ s → Found (listed w32 face_bytes) (Few InRangeFace w32) l at r → Found (listed w32 face_bytes) (Few InRangeFace w32) l at s
+faces_as l at e p = subst (Found (listed w32 face_bytes) (Few InRangeFace w32) l at) e p
+
+pub returns-in_err-middle : goal.returns-in_err-middle
+returns-in_err-middle c =
     let l = c.args.model.now in
-    let m = short_measured l c.type_inv.model (model_found l c.in-Some.middle c.in-Some.ensures None c.in_default-faces_end.ensures) in
-    record { measured = m; again = read_again l Short m }
+    let e : c.from_residual.result ≡ Err Short = search rules in
+    let m = short_measured l c.type_inv.model (no_pieces l (pieces_as l c.in_err-middle.ensures.ok_part c.parts_end.ensures)) in
+    record { measured = subst (Measured l) (sym e) m; again = subst (ReadAgain l) (sym e) (read_again l (Err Short) m) }
+
+pub returns-in_err-end : goal.returns-in_err-end
+returns-in_err-end c =
+    let l = c.args.model.now in
+    let middle = c.in_ok-middle.middle in
+    let e : c.from_residual-in_err-end.result ≡ Err Short = search rules in
+    let m = short_measured l c.type_inv.model
+    (model_found l middle (pieces_as l c.in_ok-middle.ensures.ok_part c.parts_end.ensures) None (faces_as l middle c.in_err-end.ensures.ok_part c.parts_end-2.ensures)) in
+    record { measured = subst (Measured l) (sym e) m; again = subst (ReadAgain l) (sym e) (read_again l (Err Short) m) }
 
 pub returns-then-end-model : goal.returns-then-end-model
 returns-then-end-model c =
     let l = c.args.model.now in
-    let end = c.in-Some-faces_end.end in
-    let m = long_measured l end (model_found l c.in-Some.middle c.in-Some.ensures (Some end) c.in-Some-faces_end.ensures) c.if-end-model.true in
-    record { measured = m; again = read_again l (Long end) m }
+    let middle = c.in_ok-middle.middle in
+    let end = c.in_ok-end.end in
+    let m = long_measured l end
+    (model_found l middle (pieces_as l c.in_ok-middle.ensures.ok_part c.parts_end.ensures) (Some end) (faces_as l middle c.in_ok-end.ensures.ok_part c.parts_end-2.ensures)) c.if-end-model.true in
+    record { measured = m; again = read_again l (Err (Long end)) m }
 
-pub long_at-requires : goal.long_at-requires
-long_at-requires c = record { there = number_within piece_bytes InRangePiece c.args.model.now 0 c.in-Some.middle c.in-Some.ensures }
+pub read-requires : goal.read-requires
+read-requires c =
+    let l = c.args.model.now in
+    record { there = number_within piece_bytes InRangePiece l 0 c.in_ok-middle.middle (pieces_as l c.in_ok-middle.ensures.ok_part c.parts_end.ensures) }
 
-pub long_at-requires-2 : goal.long_at-requires-2
-long_at-requires-2 c = record { there = number_within face_bytes InRangeFace c.args.model.now c.in-Some.middle c.in-Some-faces_end.end c.in-Some-faces_end.ensures }
+pub read-requires-2 : goal.read-requires-2
+read-requires-2 c =
+    let l = c.args.model.now in
+    let middle = c.in_ok-middle.middle in
+    record { there = number_within face_bytes InRangeFace l middle c.in_ok-end.end (faces_as l middle c.in_ok-end.ensures.ok_part c.parts_end-2.ensures) }
 
 pub returns : goal.returns
 returns c =
     let l = c.args.model.now in
-    let k : Layout = record { pieces = c.long_at.result; middle = c.in-Some.middle; faces = c.long_at-2.result } in
-    let m = whole_measured l c.in-Some.middle c.in-Some-faces_end.end c.long_at.result c.long_at-2.result
-    c.in-Some.ensures c.in-Some-faces_end.ensures c.if-end-model.false c.long_at.ensures c.long_at-2.ensures in
-    record { measured = m; again = read_again l (Whole k) m }
+    let middle = c.in_ok-middle.middle in
+    let k : Layout = record { pieces = c.read.result; middle = middle; faces = c.read-2.result } in
+    let m = whole_measured l middle c.in_ok-end.end c.read.result c.read-2.result (pieces_as l c.in_ok-middle.ensures.ok_part c.parts_end.ensures) (faces_as l middle c.in_ok-end.ensures.ok_part c.parts_end-2.ensures)
+    c.if-end-model.false c.read.ensures c.read-2.ensures in
+    record { measured = m; again = read_again l (Ok k) m }

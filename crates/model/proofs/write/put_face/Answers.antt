@@ -1,37 +1,25 @@
-use Rattle.std.proofs.Common.{◌≡◌, ℕ, ◌+◌, ◌*◌, List, ◌++◌, map, length, drop, sym, ap, ◌∙◌, arith, w16, rules}
+use Rattle.std.proofs.Common.{ℕ, ◌+◌, ◌*◌, map, sym, ap, ◌∙◌, w16}
 use lib.ListN.{length-map}
 use Rattle.model.specs.Wire.{wire_place}
 use Rattle.model.specs.Format.{listed, face_bytes, place_bytes, plane_bytes}
 use Rattle.model.proofs.Codes.{length-listed, length-plane_bytes, length-place_bytes, w_small}
-use Rattle.model.proofs.Writes.{at_first, and_then, regroup₄}
+use Rattle.model.proofs.Writes.{written_as, wrote₄, listed-map}
 use Rattle.model.proofs.write.put_face.Goals as goal
 
-pub put_places-requires : goal.put_places-requires
-put_places-requires c =
-    let e : length (map wire_place c.args.corners.now) ≡ length c.args.corners.now = length-map c.args.corners.now wire_place in
-    record {
-      few = omega (arith, c.requires.range.few_corners);
-      range = w_small c.args.corners.now c.requires.range.corners;
-      room = search rules;
-    }
+pub put_list-requires-clause-range : goal.put_list-requires-clause-range
+put_list-requires-clause-range c = w_small c.args.corners.now c.requires.range.corners
 
-pub returns : goal.returns
+pub returns-clause-written : goal.returns-clause-written
 unfolding face_bytes
-returns c =
-    let m = c.args.out.now in
+returns-clause-written c =
     let es = c.args.edges.now in
-    let qs = c.args.corners.now in
+    let vs = c.args.corners.now in
     let q = wire_place c.args.place in
-    let j = c.put_planes-at.result in
-    let k = c.put_places.result in
-    let ej : j ≡ 2 + 7 * length es = c.put_planes-at.ensures.long in
-    let ek : k ≡ 2 + 32 * length qs = c.put_places.ensures.long in
-    let lc : length (listed w16 place_bytes (map wire_place qs)) ≡ k = length-listed w16 place_bytes 32 length-place_bytes (map wire_place qs) ∙ ap (λ (n : ℕ). 2 + 32 * n) (length-map qs wire_place) ∙ sym ek in
-    let one = at_first m (length-plane_bytes c.args.plane) c.put_plane.ensures in
-    let two = and_then (listed w16 plane_bytes es) c.put_planes-at.new.out j one (length-listed w16 plane_bytes 7 length-plane_bytes es ∙ sym ej) c.put_planes-at.ensures.written in
-    let three = and_then (place_bytes q) c.put_place.new.out 32 two (length-place_bytes q) c.put_place.ensures in
-    let four = and_then (listed w16 place_bytes (map wire_place qs)) c.put_places.new.out k three lc c.put_places.ensures.written in
-    record {
-      written = four.is ∙ ap (λ (l : List ℕ). l ++ drop (7 + j + 32 + k) m) (regroup₄ (plane_bytes c.args.plane) (listed w16 plane_bytes es) (place_bytes q) (listed w16 place_bytes (map wire_place qs)));
-      long = omega arith;
-    }
+    let j = c.put_list-at.ensures in
+    let k = c.put_list.ensures in
+    let i = listed-map w16 place_bytes wire_place vs in
+    let lk = length-listed w16 place_bytes 32 length-place_bytes (map wire_place vs) ∙ ap (λ (n : ℕ). 2 + 32 * n) (length-map vs wire_place) ∙ sym k.long in
+    wrote₄ c.args.out.now (plane_bytes c.args.plane) (listed w16 plane_bytes es) (place_bytes q) (listed w16 place_bytes (map wire_place vs))
+    c.put_list-at.new.out c.put-2.new.out c.put_list.new.out 7 c.put_list-at.result 32 c.put_list.result
+    (length-plane_bytes c.args.plane) (length-listed w16 plane_bytes 7 length-plane_bytes es ∙ sym j.long) (length-place_bytes q) lk
+    c.put.ensures j.written c.put-2.ensures (written_as _ k.written i)

@@ -1,6 +1,0 @@
-use Rattle.std.proofs.Common.{refl, w16}
-use Rattle.model.proofs.Decodes.{count_read}
-use Rattle.model.proofs.read.short_at.Goals as goal
-
-pub returns : goal.returns
-returns c = count_read w16 1 refl c.args.model.now c.args.at c.type_inv.model c.requires.there c.copy_from_slice.ensures.after c.from_le_bytes.ensures

@@ -1,8 +1,0 @@
-use Rattle.std.proofs.Common.{refl, ◌∙◌, to_z-of_z, w64}
-use Rattle.model.proofs.Decodes.{signed_read}
-use Rattle.model.proofs.read.wide_at.Goals as goal
-
-pub returns : goal.returns
-returns c =
-    signed_read w64 7 refl c.args.model.now c.args.at c.type_inv.model c.requires.there c.copy_from_slice.ensures.after
-    (to_z-of_z {w = w64} (record { sfits = c.from_le_bytes.type_inv }) ∙ c.from_le_bytes.ensures)
