@@ -5,8 +5,6 @@ use Rattle.grammar.specs.Meaning.{fine}
 use Rattle.grammar.specs.Faults.{Fault, word_faults, looked, most_bytes, Reaches, FirstFault}
 use Rattle.grammar.specs.Tokens.{starts_from}
 use Rattle.reader.specs.Names.{words_at}
-use Rattle.reader.specs.declared.types.Verdict.{Verdict}
-use Rattle.reader.specs.declared.types.Verdict.TheVariants.{Whole, Bad}
 use Rattle.reader.specs.declared.types.Reach.{Reach}
 use Rattle.reader.specs.declared.types.Found.{Found}
 use Rattle.reader.specs.declared.types.Refusal.{Refusal}
@@ -14,9 +12,10 @@ use Rattle.reader.specs.declared.types.Counts.{Counts}
 use Rattle.reader.specs.Layout.{Taken, Laid}
 use Rattle.reader.specs.Scan.{told, named_in}
 
-abbrev pub Says : Verdict → List ℕ → Type 0
-Says Whole bs = Text bs
-Says (Bad p) bs = Refused bs p
+-- whether bytes are a text, and if not, the first at which no text goes on so
+abbrev pub Says : Result Unit ℕ → List ℕ → Type 0
+Says (Ok _) bs = Text bs
+Says (Err p) bs = Refused bs p
 
 -- the bytes from s to i
 abbrev pub between : ℕ → ℕ → List ℕ → List ℕ

@@ -7,7 +7,7 @@ ghost use Rattle.reader.specs.Reading.{Reached, Words, Last, Examined};
 use super::check::check;
 use super::machine::read_text;
 use super::tokens::token_starts;
-use super::types::{Found, Reach, Refusal, Verdict};
+use super::types::{Found, Reach, Refusal};
 
 /// How many bytes of a text are read.
 const MOST_BYTES: usize = 1048576;
@@ -19,11 +19,11 @@ fn reach_of(text: &[u8], stack: &mut [u64]) -> Reach
 {
     let end = text.len().min(MOST_BYTES);
     match read_text(&text[0..end], stack) {
-        Verdict::Whole => Reach {
+        Ok(()) => Reach {
             at: end,
             whole: true,
         },
-        Verdict::Bad(at) => Reach { at, whole: false },
+        Err(at) => Reach { at, whole: false },
     }
 }
 

@@ -7,17 +7,6 @@ ghost use Rattle.grammar.specs.Machine.{byte, kind_of, Good};
 use grammar::types::{Kind, Sep};
 use std::str::from_utf8;
 
-pub(crate) fn sep_byte(c: Sep) -> u8
-    ensures { result ≡ byte c }
-{
-    match c {
-        Sep::Space => b' ',
-        Sep::Comma => b',',
-        Sep::Close => b')',
-        Sep::End => b'\n',
-    }
-}
-
 /// What the word is.
 pub(crate) fn word_kind(word: &[u8]) -> Kind
     requires { Good word.now }
@@ -54,13 +43,13 @@ pub(crate) fn word_kind(word: &[u8]) -> Kind
 pub(crate) fn is_letter(b: u8) -> bool
     ensures { result ≡ letter b }
 {
-    b'a' <= b && b <= b'z'
+    b.is_ascii_lowercase()
 }
 
 pub(crate) fn is_alnum(b: u8) -> bool
     ensures { result ≡ alnum b }
 {
-    is_letter(b) || b'0' <= b && b <= b'9'
+    is_letter(b) || b.is_ascii_digit()
 }
 
 /// Whether a word goes on with the byte.
@@ -68,7 +57,7 @@ pub(crate) fn goes_on(word: &[u8], b: u8) -> bool
     requires { Good word.now }
     ensures { result ≡ is_word (word.now ++ b ∷ []) }
 {
-    if word.len() == 0 {
+    if word.is_empty() {
         is_letter(b)
     } else {
         word.len() < 12 && is_alnum(b)
@@ -80,8 +69,5 @@ pub(crate) fn ends_name(word: &[u8], c: Sep, b: u8) -> bool
     requires { Good word.now }
     ensures { result ≡ (is_name word.now && b == byte c) }
 {
-    match word_kind(word) {
-        Kind::NameWord => b == sep_byte(c),
-        _ => false,
-    }
+    word_kind(word) == Kind::NameWord && b == u8::from(c)
 }

@@ -2,32 +2,26 @@
 
 use grammar::types::Sep;
 
+/// How far a number has come.
+#[derive(Clone, Copy, PartialEq, Eq, Debug)]
+pub enum Number {
+    /// Nothing of it is there.
+    Start,
+    /// Its minus is there.
+    Minus,
+    /// A digit is there.
+    Digits,
+}
+
 /// What a text must go on with.
-#[derive(Clone, Copy)]
+#[derive(Clone, Copy, PartialEq, Eq, Debug)]
 pub enum Want {
     Lit(u8),
-    Num(Sep),
-    Minus(Sep),
-    Digits(Sep),
+    Number(Number, Sep),
     Name(Sep),
     Shape(Sep),
     AfterP,
     AfterM,
-}
-
-/// What a byte did: it cannot stand here, the stack is now so deep, or the word goes on.
-#[derive(Clone, Copy)]
-pub enum Went {
-    Stuck,
-    On(usize),
-    Word,
-}
-
-/// What the grammar says of bytes: they are a text, or none goes on so at this byte.
-#[derive(Clone, Copy)]
-pub enum Verdict {
-    Whole,
-    Bad(usize),
 }
 
 /// What a text that is taken has: how many steps its parts have in all, and how many questions it asks.
