@@ -1,5 +1,5 @@
 -- One turn of the reader's loop.
-use Rattle.std.proofs.Common.{◌≡◌, ℕ, ◌+◌, ◌-◌, ◌*◌, ◌<◌, ◌≤◌, true, ◌&&◌, List, [], ◌∷◌, ◌++◌, length, get_or, take, drop, sym, refl, ap, ◌∙◌, subst, arith, length-drop, length-take, Option, Some, None, Ok, Err, ok_or}
+use Rattle.std.proofs.Common.{◌≡◌, ℕ, ◌+◌, ◌-◌, ◌*◌, ◌<◌, ◌≤◌, true, ◌&&◌, List, [], ◌∷◌, ◌++◌, length, get_or, take, drop, sym, refl, ap, ◌∙◌, subst, arith, length-drop, length-take, Option, Some, None, Err, ok_or}
 use Rattle.std.proofs.lemmas.List.{take_more, get_or-drop, take_all}
 use Rattle.grammar.specs.Grammar.{is_word, Text, Refused}
 use Rattle.grammar.specs.Machine.{step, run, Good}
@@ -21,11 +21,7 @@ between_more s i bs h l =
     let f : s + (i - s) ≡ i = omega arith in
     rw e (take_more (drop s bs) (i - s) 0 m ∙ ap (λ (x : ℕ). between s i bs ++ x ∷ []) (get_or-drop s bs (i - s) 0 ∙ ap (λ (x : ℕ). get_or bs x 0) f))
 
--- what is told where a byte can stand, and where it can't
-pub told_some : (o : Option Unit) (i : ℕ) (u : Unit) → ok_or o i ≡ Ok u → o ≡ Some (tt {0})
-told_some None i u e = absurd (let z : ◌≡◌ {A = ℕ} 0 1 = cc in omega arith)
-told_some (Some _) i u e = refl
-
+-- what is told where a byte can't stand
 pub told_none : (o : Option Unit) (i j : ℕ) → ok_or o i ≡ Err j → (o ≡ None) × (j ≡ i)
 told_none None i j e = (refl, cc)
 told_none (Some _) i j e = absurd (let z : ◌≡◌ {A = ℕ} 0 1 = cc in omega arith)

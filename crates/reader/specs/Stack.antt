@@ -1,5 +1,5 @@
 -- The stack of what is still expected, as it lies in words: the last of the first `depth` words is what comes first.
-use Rattle.std.specs.Prelude.{◌≡◌, ℕ, zero, suc, ◌/◌, ◌%◌, Bool, true, false, cond, List, [], ◌∷◌, Option, ◌==◌, slice_index, option_map, unwrap_or}
+use Rattle.std.specs.Prelude.{◌≡◌, ℕ, zero, suc, ◌/◌, ◌%◌, Bool, true, false, cond, List, [], ◌∷◌, length, Option, ◌==◌, slice_index, option_map, unwrap_or}
 use Rattle.grammar.specs.declared.types.Sep.TheVariants.{End}
 use Rattle.reader.specs.declared.types.Number.TheVariants.{Start, Minus, Digits}
 use Rattle.reader.specs.declared.types.Want.{Want}
@@ -26,6 +26,9 @@ wants_of (suc k) ws = want_of (slice_index ws k) ∷ wants_of k ws
 pub record Pile : Type 0 where
   pub wants : List Want
   pub size : ℕ
+
+abbrev pub pile_of : ℕ → List ℕ → Pile
+pile_of depth ws = record { wants = wants_of depth ws; size = length ws }
 
 -- with the bytes so far of the word that is being read
 abbrev pub lift : Want → List ℕ → Sym

@@ -150,6 +150,7 @@ fn in_word(stack: &Stack<'_>, word: &[u8], b: u8) -> bool
 }
 
 /// The next byte, where it goes on with no word; `word` is what there is of a word, and is empty where none is read.
+#[tactic(auto, using(crate::proofs::Words::shape_next))]
 fn advance(stack: &mut Stack<'_>, word: &[u8], b: u8) -> Option<()>
     requires room { length stack.old.wants + 8 ≤ stack.old.size }
     requires good { Good word.now }

@@ -65,6 +65,7 @@ pub(crate) fn goes_on(word: &[u8], b: u8) -> bool
 }
 
 /// Whether the word is a name, and the byte ends it.
+#[tactic(auto, using(crate::proofs::Words::kind_same))]
 pub(crate) fn ends_name(word: &[u8], c: Sep, b: u8) -> bool
     requires { Good word.now }
     ensures { result ≡ (is_name word.now && b == byte c) }

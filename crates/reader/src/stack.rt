@@ -56,11 +56,11 @@ pub(crate) struct Stack<'s> {
 
 impl<'s> Model for Stack<'s> {
     ghost use Rattle.std.specs.Prelude.{◌≤◌, length};
-    ghost use Rattle.reader.specs.Stack.{Pile, wants_of};
+    ghost use Rattle.reader.specs.Stack.{Pile, pile_of};
 
     ghost Value = { Pile };
 
-    ghost view = { λ s. record { wants = wants_of s.depth s.words.now; size = length s.words.now } };
+    ghost view = { λ s. pile_of s.depth s.words.now };
 
     ghost invariant = { λ s. s.depth ≤ length s.words.now };
 }
@@ -99,6 +99,7 @@ impl<'s> Stack<'s> {
     }
 
     /// Expects this before all else.
+    #[tactic(auto, using(crate::proofs::Stacks::room_left, crate::proofs::Stacks::room_used, crate::proofs::Stacks::view_pushed))]
     pub(crate) fn push(&mut self, want: Want)
         requires { length self.old.wants < self.old.size }
         ensures { self.new ≡ record self.old { wants = want ∷ self.old.wants } }

@@ -1,9 +1,9 @@
-use Rattle.std.proofs.Common.{◌+◌, ◌∙◌, sym, refl, arith, ap, [], false}
+use Rattle.std.proofs.Common.{◌≡◌, Some, ◌+◌, ◌∙◌, sym, refl, arith, ap, [], false}
 use Rattle.std.specs.Option.{option_map}
 use Rattle.std.proofs.lemmas.Bool.{both_ways, and_parts}
 use Rattle.std.proofs.lemmas.Result.{err_from_is_err_and}
 use Rattle.reader.specs.Stack.{symbols, takes_word}
-use Rattle.reader.proofs.Turn.{told_some, told_none, turn_on, turn_depth, turn_word, turn_stuck, good_none, good_word, end_whole, end_bad}
+use Rattle.reader.proofs.Turn.{told_none, turn_on, turn_depth, turn_word, turn_stuck, good_none, good_word, end_whole, end_bad}
 use Rattle.reader.proofs.machine.read_text.Goals as goal
 
 pub loop-i-preserved-then-in_word : goal.loop-i-preserved-then-in_word
@@ -29,7 +29,7 @@ pub loop-i-preserved : goal.loop-i-preserved
 loop-i-preserved c =
     let bs = c.args.text.now in
     let inv = c.loop-i.invariant in
-    let k = told_some c.advance.result c.loop-i.i c.in_ok-ok_or.field-0 (sym c.ok_or.ensures.value ∙ c.in_ok-ok_or.was) in
+    let k : c.advance.result ≡ Some (tt {0}) = grind arith in
     let e = c.advance.ensures.0 ∙ ap (option_map (λ _. symbols c.advance.new.stack.wants [])) k in (
       turn_on bs c.loop-i.stack.wants c.loop-i.i c.loop-i.start c.loop-i-test.true inv.0 c.advance.new.stack.wants e,
       good_none (c.loop-i.i + 1) bs,
