@@ -1,25 +1,16 @@
 -- One turn of the reader's loop.
 use Rattle.std.proofs.Common.{◌≡◌, ℕ, ◌+◌, ◌-◌, ◌*◌, ◌<◌, ◌≤◌, true, ◌&&◌, List, [], ◌∷◌, ◌++◌, length, get_or, take, drop, sym, refl, ap, ◌∙◌, subst, arith, length-drop, length-take, Option, Some, None, Err, ok_or}
-use Rattle.std.proofs.lemmas.List.{take_more, get_or-drop, take_all}
+use Rattle.std.specs.List.{between}
+use Rattle.std.proofs.lemmas.List.{take_all}
+use Rattle.std.proofs.lemmas.List.Edits.{between_none, between_more}
 use Rattle.grammar.specs.Grammar.{is_word, Text, Refused}
 use Rattle.grammar.specs.Machine.{step, run, Good}
 use Rattle.reader.specs.declared.types.Want.{Want}
 use Rattle.reader.specs.Stack.{symbols, takes_word}
-use Rattle.reader.specs.Reading.{between}
 use Rattle.grammar.proofs.Whole.{start, run_more, good_more, refused_here, refused_end, text_from_run, keep_run, SoundO}
 use Rattle.grammar.proofs.Exact.{Sound}
 use Rattle.reader.proofs.Grow.{deeper}
 use Rattle.reader.proofs.Words.{goes_on}
-
-pub between_none : (s : ℕ) (bs : List ℕ) → between s s bs ≡ []
-between_none s bs = let e : s - s ≡ 0 = omega arith in rw e
-
-pub between_more : (s i : ℕ) (bs : List ℕ) → s ≤ i → i < length bs → between s (i + 1) bs ≡ between s i bs ++ get_or bs i 0 ∷ []
-between_more s i bs h l =
-    let e : i + 1 - s ≡ (i - s) + 1 = omega arith in
-    let m : i - s < length (drop s bs) = simp length-drop (omega arith) in
-    let f : s + (i - s) ≡ i = omega arith in
-    rw e (take_more (drop s bs) (i - s) 0 m ∙ ap (λ (x : ℕ). between s i bs ++ x ∷ []) (get_or-drop s bs (i - s) 0 ∙ ap (λ (x : ℕ). get_or bs x 0) f))
 
 -- what is told where a byte can't stand
 pub told_none : (o : Option Unit) (i j : ℕ) → ok_or o i ≡ Err j → (o ≡ None) × (j ≡ i)
@@ -28,7 +19,7 @@ told_none (Some _) i j e = absurd (let z : ◌≡◌ {A = ℕ} 0 1 = cc in omega
 
 module _ (bs : List ℕ) (xs : List Want) (i s : ℕ) (l : i < length bs) (inv : run start (take i bs) ≡ Some (symbols xs (between s i bs))) where
   pub turn_on : (ys : List Want) → step (symbols xs (between s i bs)) (get_or bs i 0) ≡ Some (symbols ys []) → run start (take (i + 1) bs) ≡ Some (symbols ys (between (i + 1) (i + 1) bs))
-  turn_on ys e = run_more bs i _ l inv ∙ e ∙ ap (λ (w : List ℕ). Some (symbols ys w)) (sym (between_none (i + 1) bs))
+  turn_on ys e = run_more bs i _ l inv ∙ e ∙ ap (λ (w : List ℕ). Some (symbols ys w)) (sym (between_none bs (i + 1)))
 
   pub turn_depth : (ys : List Want) → s ≤ i → length xs ≤ 2 * s + 9 → step (symbols xs (between s i bs)) (get_or bs i 0) ≡ Some (symbols ys []) → length ys ≤ 2 * (i + 1) + 9
   turn_depth ys h k e =
@@ -37,16 +28,16 @@ module _ (bs : List ℕ) (xs : List Want) (i s : ℕ) (l : i < length bs) (inv :
       deeper xs ys (between s i bs) (get_or bs i 0) (2 * (i + 1) + 9) sound e (omega arith) (omega arith)
 
   pub turn_word : s ≤ i → (takes_word xs && is_word (between s i bs ++ get_or bs i 0 ∷ [])) ≡ true → run start (take (i + 1) bs) ≡ Some (symbols xs (between s (i + 1) bs))
-  turn_word h e = run_more bs i _ l inv ∙ goes_on xs (between s i bs) (get_or bs i 0) e ∙ ap (λ (w : List ℕ). Some (symbols xs w)) (sym (between_more s i bs h l))
+  turn_word h e = run_more bs i _ l inv ∙ goes_on xs (between s i bs) (get_or bs i 0) e ∙ ap (λ (w : List ℕ). Some (symbols xs w)) (sym (between_more bs s i 0 h l))
 
   pub turn_stuck : step (symbols xs (between s i bs)) (get_or bs i 0) ≡ None → Refused bs i
   turn_stuck e = refused_here bs i _ l inv e
 
 pub good_none : (s : ℕ) (bs : List ℕ) → Good (between s s bs)
-good_none s bs = subst Good (sym (between_none s bs)) tt
+good_none s bs = subst Good (sym (between_none bs s)) tt
 
 pub good_word : (s i : ℕ) (bs : List ℕ) → s ≤ i → i < length bs → is_word (between s i bs ++ get_or bs i 0 ∷ []) ≡ true → Good (between s (i + 1) bs)
-good_word s i bs h l e = subst Good (sym (between_more s i bs h l)) (good_more (between s i bs) (get_or bs i 0) e)
+good_word s i bs h l e = subst Good (sym (between_more bs s i 0 h l)) (good_more (between s i bs) (get_or bs i 0) e)
 
 -- the end
 pub end_whole : (bs w : List ℕ) (xs : List Want) (i : ℕ) → length bs ≤ i → run start (take i bs) ≡ Some (symbols xs w) → xs ≡ [] → Text bs

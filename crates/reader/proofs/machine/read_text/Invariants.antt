@@ -1,7 +1,7 @@
 use Rattle.std.proofs.Common.{◌≡◌, ◌+◌, ◌*◌, ◌≤◌, [], length, take, Some}
 use Rattle.grammar.specs.Machine.{run, Good}
 use Rattle.reader.specs.Stack.{symbols}
-use Rattle.reader.specs.Reading.{between}
+use Rattle.std.specs.List.{between}
 use Rattle.reader.proofs.machine.read_text.Given as goal
 
 abbrev pub invariant-loop-i : goal.invariant-loop-i
