@@ -476,7 +476,7 @@ out_m b s bs r (model n) h g =
     (yes! (eqb b 111) _ _ bs (eq-eqb b 111 p) (_, q, (_, refl, (_, refl, (_, refl, (n, _, refl, g))))))
 
 out_line : (b : ℕ) (bs : List ℕ) (ls : List Line) → b ∷ bs ≡ print ls → After (step [] b) bs
-out_line b bs [] e = let z : ◌≡◌ {A = ℕ} 0 1 = cc in absurd (omega arith)
+out_line b bs [] e = cc
 out_line b bs (part n e ∷ ls) h =
     let p : b ≡ 112 = cc in
     yes! (eqb b 112) _ _ bs (eq-eqb b 112 p) (part n e, print ls, ap (λ (x : ℕ). x ∷ bs) (sym p) ∙ h, (ls, refl))

@@ -70,7 +70,7 @@ no_front b r w m e = go (in_tok b) e
   where
     go : (t : Bool) → cond t (b ∷ tok_at r) [] ≡ 45 ∷ w → ⊥
     go true f = let g : b ≡ 45 = cc in m g
-    go false f = let z : ◌≡◌ {A = ℕ} 0 1 = cc in omega arith
+    go false f = cc
 
 pub first_plain : (xs : List ℕ) (at : ℕ) (z : ℤ) → at < length xs → (get_or xs at 0 ≡ 45 → ⊥) → tok_at (drop at xs) ≡ signed z → (n : ℕ) × (z ≡ pos n) × (read_on 0 (drop at xs) ≡ n)
 first_plain xs at (pos n) h m e = (n, refl, read_decimal (drop at xs) n e)

@@ -1,5 +1,5 @@
 -- One turn of the reader's loop.
-use Rattle.std.proofs.Common.{◌≡◌, ℕ, ◌+◌, ◌-◌, ◌*◌, ◌<◌, ◌≤◌, true, ◌&&◌, List, [], ◌∷◌, ◌++◌, length, get_or, take, drop, sym, refl, ap, ◌∙◌, subst, arith, length-drop, length-take, Option, Some, None, Err, ok_or}
+use Rattle.std.proofs.Common.{◌≡◌, ℕ, ◌+◌, ◌-◌, ◌*◌, ◌<◌, ◌≤◌, true, ◌&&◌, List, [], ◌∷◌, ◌++◌, length, get_or, take, sym, refl, ap, ◌∙◌, subst, arith, length-take, Option, Some, None, Err, ok_or}
 use Rattle.std.specs.List.{between}
 use Rattle.std.proofs.lemmas.List.{take_all}
 use Rattle.std.proofs.lemmas.List.Edits.{between_none, between_more}
@@ -15,7 +15,7 @@ use Rattle.reader.proofs.Words.{goes_on}
 -- what is told where a byte can't stand
 pub told_none : (o : Option Unit) (i j : ℕ) → ok_or o i ≡ Err j → (o ≡ None) × (j ≡ i)
 told_none None i j e = (refl, cc)
-told_none (Some _) i j e = absurd (let z : ◌≡◌ {A = ℕ} 0 1 = cc in omega arith)
+told_none (Some _) i j e = cc
 
 module _ (bs : List ℕ) (xs : List Want) (i s : ℕ) (l : i < length bs) (inv : run start (take i bs) ≡ Some (symbols xs (between s i bs))) where
   pub turn_on : (ys : List Want) → step (symbols xs (between s i bs)) (get_or bs i 0) ≡ Some (symbols ys []) → run start (take (i + 1) bs) ≡ Some (symbols ys (between (i + 1) (i + 1) bs))
@@ -46,7 +46,7 @@ end_whole bs w xs i h e z =
 
 some_symbols : (xs : List Want) (w : List ℕ) → (xs ≡ [] → ⊥) → symbols xs w ≡ [] → ⊥
 some_symbols [] w n e = n refl
-some_symbols (x ∷ xs) w n e = let z : ◌≡◌ {A = ℕ} 0 1 = cc in omega arith
+some_symbols (x ∷ xs) w n e = cc
 
 pub end_bad : (bs w : List ℕ) (xs : List Want) (i : ℕ) → length bs ≤ i → run start (take i bs) ≡ Some (symbols xs w) → (xs ≡ [] → ⊥) → Refused bs (length bs)
 end_bad bs w xs i h e n =

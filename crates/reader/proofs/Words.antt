@@ -118,7 +118,7 @@ module _ (xs : List Want) (x : Want) (c : Sep) (w : List ℕ) (b : ℕ) (first :
       ends s false u = refl
 
       go : (xs : List Want) → Some x ≡ slice_get xs 0 → (takes_word xs && is_word (w ++ b ∷ [])) ≡ false → step (symbols xs w) b ≡ option_map (λ _. symbols (drop 1 xs) []) (then_some (is_name w && b == byte c) (tt {0}))
-      go [] f h = absurd (let z : ◌≡◌ {A = ℕ} 0 1 = cc in omega arith)
+      go [] f h = cc
       go (y ∷ ys) f h =
           let k : y ≡ Name c = cc in
           let n = subst (λ (y : Want). (takes_word (y ∷ ys) && is_word (w ++ b ∷ [])) ≡ false) k h in
@@ -128,7 +128,7 @@ module _ (xs : List Want) (x : Want) (c : Sep) (w : List ℕ) (b : ℕ) (first :
   shape_next e = go xs first h
     where
       go : (xs : List Want) → Some x ≡ slice_get xs 0 → (takes_word xs && is_word (w ++ b ∷ [])) ≡ false → step (symbols xs w) b ≡ behind (kind_of w) c b (symbols (drop 1 xs) [])
-      go [] f h = absurd (let z : ◌≡◌ {A = ℕ} 0 1 = cc in omega arith)
+      go [] f h = cc
       go (y ∷ ys) f h =
           let k : y ≡ Shape c = cc in
           let n = subst (λ (y : Want). (takes_word (y ∷ ys) && is_word (w ++ b ∷ [])) ≡ false) k h in
