@@ -1,8 +1,7 @@
 -- Words, as the code tells them.
-use Rattle.std.proofs.Common.{◌≡◌, ℕ, zero, suc, ◌+◌, ◌<◌, Bool, true, false, cond, ◌&&◌, ◌==◌, ltb, leb, ◌⊎◌, List, [], ◌∷◌, ◌++◌, length, IsUtf8, IsAscii, sym, refl, ◌∙◌, subst, inl, inr, arith, length-append, Option, Some, None, drop, slice_get, option_map, rules}
-use Rattle.std.proofs.Math.Bool.{and-true}
+use Rattle.std.proofs.Common.{◌≡◌, ℕ, zero, suc, ◌<◌, Bool, true, false, cond, ◌&&◌, ◌==◌, leb, ◌⊎◌, List, [], ◌∷◌, ◌++◌, IsUtf8, IsAscii, sym, refl, ◌∙◌, subst, inl, inr, arith, Option, Some, None, drop, slice_get, option_map, rules}
 use Rattle.std.proofs.lemmas.Str.{IsUtf8-from_ascii}
-use Rattle.std.proofs.lemmas.Bool.{both_ways, and_parts, and_from, or_cases, or_from, leb-true, leb-false, not_from_false, cases_Bool, le-leb, lt-leb, cond-true, cond-false}
+use Rattle.std.proofs.lemmas.Bool.{both_ways, and_parts, and_from, or_cases, or_from, leb-true, not_from_false, cases_Bool, cond-true, cond-false}
 use Rattle.std.specs.Bool.{then_some}
 use denote.Enum.Bare.{sameb, same_true, same_false}
 use Rattle.grammar.specs.contracts.types.Kind.{the_type}
@@ -46,48 +45,6 @@ ascii_all (b ∷ w) h (suc i) = ascii_all w (and_parts (alnum b) (all alnum w) h
 
 pub good_utf8 : (w : List ℕ) → Good w → IsUtf8 w
 good_utf8 w g = IsUtf8-from_ascii w (ascii_all w (alnum_good w g))
-
--- a word with one byte more
-pub word_first : (w : List ℕ) (b : ℕ) → length w ≡ 0 → is_word (w ++ b ∷ []) ≡ letter b
-word_first [] b h = and-true (letter b)
-word_first (x ∷ w) b h = absurd (omega arith)
-
-all_push : (w : List ℕ) (b : ℕ) → all alnum w ≡ true → all alnum (w ++ b ∷ []) ≡ alnum b
-all_push [] b h = and-true (alnum b)
-all_push (x ∷ w) b h =
-    let p = and_parts (alnum x) (all alnum w) h in
-    let q = all_push w b p.1 in
-    rw p.0 q
-
-pub word_more : (w : List ℕ) (b : ℕ) → Good w → (length w ≡ 0 → ⊥) → is_word (w ++ b ∷ []) ≡ (ltb (length w) 12 && alnum b)
-word_more [] b g h = absurd (h refl)
-word_more (x ∷ w) b g h = go (cases_Bool (leb (length w + 1) 11))
-  where
-    p : (letter x ≡ true) × ((all alnum w && leb (length w) 11) ≡ true)
-    p = and_parts (letter x) (all alnum w && leb (length w) 11) g
-
-    q : all alnum (w ++ b ∷ []) ≡ alnum b
-    q = all_push w b (and_parts (all alnum w) (leb (length w) 11) p.1).0
-
-    l : length (w ++ b ∷ []) ≡ length w + 1
-    l = length-append w (b ∷ [])
-
-    swap : (s t : Bool) → (s && t) ≡ (t && s)
-    swap true true = refl
-    swap true false = refl
-    swap false true = refl
-    swap false false = refl
-
-    same_test : (t : Bool) → leb (length w + 1) 11 ≡ t → ltb (suc (length w)) 12 ≡ t
-    same_test true e = le-leb (suc (suc (length w))) 12 (omega (arith, leb-true (length w + 1) 11 e))
-    same_test false e = lt-leb (suc (suc (length w))) 12 (omega (arith, leb-false (length w + 1) 11 e))
-
-    use! : (t : Bool) → leb (length w + 1) 11 ≡ t → is_word ((x ∷ w) ++ b ∷ []) ≡ (ltb (length (x ∷ w)) 12 && alnum b)
-    use! t e = rw (p.0, q, l, e, same_test t e) (swap (alnum b) t)
-
-    go : (leb (length w + 1) 11 ≡ true) ⊎ (leb (length w + 1) 11 ≡ false) → is_word ((x ∷ w) ++ b ∷ []) ≡ (ltb (length (x ∷ w)) 12 && alnum b)
-    go (inl e) = use! true e
-    go (inr e) = use! false e
 
 -- names by their kind
 pub kind_is_name : (w : List ℕ) → NameWord ≡ kind_of w → is_name w ≡ true
