@@ -7,7 +7,7 @@ ghost use Rattle.grammar.specs.Values.{Told};
 ghost use Rattle.reader.specs.Names.{words_at};
 ghost use Rattle.reader.specs.Scan.{Looked};
 
-use super::spelling::{is_alnum, is_letter, word_kind};
+use super::spelling::{Word, is_alnum, is_letter};
 use super::tokens::{find_name, magnitude};
 use super::types::{Expect, Look, Refusal};
 use grammar::types::Kind;
@@ -72,7 +72,7 @@ fn is_name(word: &[u8]) -> bool
     if !is_word(word) {
         return false;
     }
-    match word_kind(word) {
+    match Word::new(word).kind() {
         Kind::NameWord => true,
         _ => false,
     }

@@ -2,11 +2,11 @@
 
 ghost use Rattle.std.specs.Prelude.{◌≡◌, ◌+◌, ◌*◌, ◌<◌, ◌≤◌, false, ◌&&◌, [], ◌∷◌, ◌++◌, length};
 ghost use Rattle.grammar.specs.Grammar.{is_word};
-ghost use Rattle.grammar.specs.Machine.{Good, step, behind, after_p, after_m};
+ghost use Rattle.grammar.specs.Machine.{step, behind, after_p, after_m};
 ghost use Rattle.reader.specs.Reading.{Says};
 ghost use Rattle.reader.specs.Stack.{symbols, takes_word, Goes};
 
-use super::spelling::{ends_name, goes_on, word_kind};
+use super::spelling::Word;
 use super::stack::Stack;
 use super::types::{Number, Want};
 use grammar::types::{Kind, Sep};
@@ -139,21 +139,18 @@ fn in_number(stack: &mut Stack<'_>, number: Number, c: Sep, b: u8) -> Option<()>
 }
 
 /// Whether a word is expected first, and the byte goes on with it; `word` is what is there of it.
-fn in_word(stack: &Stack<'_>, word: &[u8], b: u8) -> bool
-    requires { Good word.now }
+fn in_word(stack: &Stack<'_>, word: &Word<'_>, b: u8) -> bool
     ensures { result ≡ (takes_word stack.now.wants && is_word (word.now ++ b ∷ [])) }
 {
     match stack.top() {
-        Some(Want::Name(_) | Want::Shape(_)) => goes_on(word, b),
+        Some(Want::Name(_) | Want::Shape(_)) => word.goes_on(b),
         _ => false,
     }
 }
 
 /// The next byte, where it goes on with no word; `word` is what there is of a word, and is empty where none is read.
-#[tactic(auto, using(crate::proofs::Words::shape_next))]
-fn advance(stack: &mut Stack<'_>, word: &[u8], b: u8) -> Option<()>
+fn advance(stack: &mut Stack<'_>, word: &Word<'_>, b: u8) -> Option<()>
     requires room { length stack.old.wants + 8 ≤ stack.old.size }
-    requires good { Good word.now }
     requires ends { (takes_word stack.old.wants && is_word (word.now ++ b ∷ [])) ≡ false }
     ensures { Goes result (step (symbols stack.old.wants word.now) b) stack.old stack.new }
 {
@@ -164,8 +161,8 @@ fn advance(stack: &mut Stack<'_>, word: &[u8], b: u8) -> Option<()>
     match want {
         Want::Lit(d) => (b == d).then_some(()),
         Want::Number(number, c) => in_number(stack, number, c, b),
-        Want::Name(c) => ends_name(word, c, b).then_some(()),
-        Want::Shape(c) => behind_word(stack, word_kind(word), c, b),
+        Want::Name(c) => word.ends_name(c, b).then_some(()),
+        Want::Shape(c) => behind_word(stack, word.kind(), c, b),
         Want::AfterP => after_p(stack, b),
         Want::AfterM => after_m(stack, b),
     }
@@ -179,11 +176,11 @@ pub(crate) fn read_text(text: &[u8], words: &mut [u64]) -> Result<(), usize>
     let mut stack = Stack::new(words);
     let mut start = 0;
     for (i, b) in text.iter().enumerate() {
-        let word = &text[start..i];
-        if in_word(&stack, word, *b) {
+        let word = Word::new(&text[start..i]);
+        if in_word(&stack, &word, *b) {
             continue;
         }
-        advance(&mut stack, word, *b).ok_or(i)?;
+        advance(&mut stack, &word, *b).ok_or(i)?;
         start = i + 1;
     }
     if stack.is_empty() {

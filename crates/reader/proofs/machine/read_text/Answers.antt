@@ -10,7 +10,7 @@ pub loop-i-preserved-then-in_word : goal.loop-i-preserved-then-in_word
 loop-i-preserved-then-in_word c =
     let bs = c.args.text.now in
     let inv = c.loop-i.invariant in
-    let e = sym c.in_word.ensures ∙ c.if-in_word.true in (
+    let e = rw c.new-word.ensures at (sym c.in_word.ensures ∙ c.if-in_word.true) in (
       turn_word bs c.loop-i.stack.wants c.loop-i.i c.loop-i.start c.loop-i-test.true inv.0 inv.2 e,
       good_word c.loop-i.start c.loop-i.i bs inv.2 c.loop-i-test.true (and_parts (takes_word c.loop-i.stack.wants) _ e).1,
       omega arith,
@@ -22,7 +22,8 @@ pub returns-in_err-ok_or : goal.returns-in_err-ok_or
 returns-in_err-ok_or c =
     let p = err_from_is_err_and c.from_residual.result c.from_residual.ensures.1 in
     let k = told_none c.advance.result c.loop-i.i c.in_err-ok_or.field-0.0 (sym c.ok_or.ensures.value ∙ c.in_err-ok_or.was) in
-    let e = turn_stuck c.args.text.now c.loop-i.stack.wants c.loop-i.i c.loop-i.start c.loop-i-test.true c.loop-i.invariant.0 (c.advance.ensures.0 ∙ ap (option_map _) k.0) in
+    let a = rw c.new-word.ensures at c.advance.ensures.0 in
+    let e = turn_stuck c.args.text.now c.loop-i.stack.wants c.loop-i.i c.loop-i.start c.loop-i-test.true c.loop-i.invariant.0 (a ∙ ap (option_map _) k.0) in
     rw (p.1, p.2, k.1) e
 
 pub loop-i-preserved : goal.loop-i-preserved
@@ -30,7 +31,7 @@ loop-i-preserved c =
     let bs = c.args.text.now in
     let inv = c.loop-i.invariant in
     let k : c.advance.result ≡ Some (tt {0}) = grind arith in
-    let e = c.advance.ensures.0 ∙ ap (option_map (λ _. symbols c.advance.new.stack.wants [])) k in (
+    let e = rw c.new-word.ensures at c.advance.ensures.0 ∙ ap (option_map (λ _. symbols c.advance.new.stack.wants [])) k in (
       turn_on bs c.loop-i.stack.wants c.loop-i.i c.loop-i.start c.loop-i-test.true inv.0 c.advance.new.stack.wants e,
       good_none (c.loop-i.i + 1) bs,
       omega arith,
