@@ -84,10 +84,8 @@ impl<'s> Stack<'s> {
     pub(crate) fn top(&self) -> Option<Want>
         ensures { result ≡ slice_get self.now.wants 0 }
     {
-        if self.depth == 0 {
-            return None;
-        }
-        Some(Want::from(self.words[self.depth - 1]))
+        let last = self.depth.checked_sub(1)?;
+        Some(Want::from(self.words[last]))
     }
 
     /// Takes off what comes first.
