@@ -6,6 +6,7 @@ use super::types::{Number, Want};
 use grammar::types::Sep;
 use std::marker::Model;
 
+// The library has no heap, so what is expected lies in lent words, each its number times 256 and a byte.
 impl From<Want> for u64 {
     ghost use Rattle.reader.specs.Stack.{want_of};
 
@@ -48,6 +49,7 @@ impl From<u64> for Want {
 }
 
 /// What is still expected: the last of the first `depth` words is what comes first.
+// The library has no heap, so the words are lent, and the depth stands beside them.
 #[derive(Drop)]
 pub(crate) struct Stack<'s> {
     words: &'s mut [u64],
