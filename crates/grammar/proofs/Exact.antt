@@ -1,6 +1,5 @@
 -- The machine is exact: what a stack may still read, behind a byte, is what the next stack may read.
-use Rattle.std.proofs.Common.{◌≡◌, ℕ, ◌≤◌, Bool, true, false, cond, ◌&&◌, ◌||◌, eqb, leb, ◌⊎◌, List, [], ◌∷◌, ◌++◌, length, ℤ, codes, sym, refl, ap, ◌∙◌, subst, subst₂, inl, inr, append_assoc, arith, length-append}
-use mathlib.Core.Option.{Option, none, some}
+use Rattle.std.proofs.Common.{◌≡◌, ℕ, ◌≤◌, Bool, true, false, cond, ◌&&◌, ◌||◌, eqb, leb, ◌⊎◌, List, [], ◌∷◌, ◌++◌, length, ℤ, codes, sym, refl, ap, ◌∙◌, subst, subst₂, inl, inr, append_assoc, arith, length-append, Option, Some, None}
 use Rattle.std.proofs.lemmas.Bool.{both_ways, eqb-true, eq-eqb, leb-true, le-leb, and_parts, and_from, or_left, or_cases, or_from, cond_both, cond-true, cond-false}
 use Rattle.grammar.specs.Grammar.{Expr, half, box, two, move, one, called, Two, both, either, without, One, mirror, swap, turn, two_word, one_word, Line, part, place, same_as, meet, model, on_e, on_l, print, Text, is_word, is_name, is_num, is_pos, is_empty, digit, digit1, letter, alnum, all, same, one_of, Name, signed}
 use Rattle.grammar.proofs.Numbers.{signed_num, num_signed}
@@ -23,8 +22,8 @@ Gen (after_m ∷ s) bs = (l : Line) × (r : List ℕ) × (109 ∷ bs ≡ on_l l 
 Gen (expr c w ∷ s) bs = (e : Expr) × (r : List ℕ) × (w ++ bs ≡ on_e e (byte c ∷ r)) × Gen s r
 
 abbrev pub After : Option (List Sym) → List ℕ → Type 0
-After none bs = ⊥
-After (some s) bs = Gen s bs
+After None bs = ⊥
+After (Some s) bs = Gen s bs
 
 -- a test that passes, one that fails, and either
 yes! : (t : Bool) (x y : Option (List Sym)) (bs : List ℕ) → t ≡ true → After x bs → After (cond t x y) bs
@@ -44,11 +43,11 @@ out_lit : (d b : ℕ) (s : List Sym) (bs : List ℕ) → Gen (lit d ∷ s) (b �
 out_lit d b s bs g =
     let e : b ≡ d = cc in
     let f : g.0 ≡ bs = cc in
-    yes! (eqb b d) (some s) none bs (eq-eqb b d e) (subst (Gen s) f g.2)
+    yes! (eqb b d) (Some s) None bs (eq-eqb b d e) (subst (Gen s) f g.2)
 
 in_lit : (d b : ℕ) (s : List Sym) (bs : List ℕ) → After (step (lit d ∷ s) b) bs → Gen (lit d ∷ s) (b ∷ bs)
 in_lit d b s bs a =
-    split! (eqb b d) (some s) none bs (Gen (lit d ∷ s) (b ∷ bs)) (λ e g. (bs, ap (λ (x : ℕ). x ∷ bs) (eqb-true b d e), g)) (λ e g. absurd g) a
+    split! (eqb b d) (Some s) None bs (Gen (lit d ∷ s) (b ∷ bs)) (λ e g. (bs, ap (λ (x : ℕ). x ∷ bs) (eqb-true b d e), g)) (λ e g. absurd g) a
 
 -- numbers
 sep_digit : (c : Sep) → digit (byte c) ≡ false
@@ -63,17 +62,11 @@ sep_alnum Comma = refl
 sep_alnum Close = refl
 sep_alnum End = refl
 
-sep_digit1 : (c : Sep) → digit1 (byte c) ≡ false
-sep_digit1 Space = refl
-sep_digit1 Comma = refl
-sep_digit1 Close = refl
-sep_digit1 End = refl
-
 out_digits : (c : Sep) (b : ℕ) (s : List Sym) (bs n r : List ℕ) → all digit n ≡ true → b ∷ bs ≡ n ++ byte c ∷ r → Gen s r → After (step (digits c ∷ s) b) bs
 out_digits c b s bs [] r d e g =
     let p : byte c ≡ b = cc in
     let q : r ≡ bs = cc in
-    no! (digit b) _ _ bs (subst (λ (x : ℕ). digit x ≡ false) p (sep_digit c)) (yes! (eqb b (byte c)) (some s) none bs (eq-eqb b (byte c) (sym p)) (subst (Gen s) q g))
+    no! (digit b) _ _ bs (subst (λ (x : ℕ). digit x ≡ false) p (sep_digit c)) (yes! (eqb b (byte c)) (Some s) None bs (eq-eqb b (byte c) (sym p)) (subst (Gen s) q g))
 out_digits c b s bs (x ∷ n) r d e g =
     let p : x ≡ b = cc in
     let q : bs ≡ n ++ byte c ∷ r = cc in
@@ -84,7 +77,7 @@ in_digits : (c : Sep) (b : ℕ) (s : List Sym) (bs : List ℕ) → After (step (
 in_digits c b s bs a =
     split! (digit b) _ _ bs (Gen (digits c ∷ s) (b ∷ bs))
     (λ e g. (b ∷ g.0, g.1, and_from (digit b) (all digit g.0) e g.2, ap (λ (x : List ℕ). b ∷ x) g.3, g.4))
-    (λ _ h. split! (eqb b (byte c)) (some s) none bs (Gen (digits c ∷ s) (b ∷ bs)) (λ e g. ([], bs, refl, ap (λ (x : ℕ). x ∷ bs) (eqb-true b (byte c) e), g)) (λ _ f. absurd f) h)
+    (λ _ h. split! (eqb b (byte c)) (Some s) None bs (Gen (digits c ∷ s) (b ∷ bs)) (λ e g. ([], bs, refl, ap (λ (x : ℕ). x ∷ bs) (eqb-true b (byte c) e), g)) (λ _ f. absurd f) h)
     a
 
 out_minus : (c : Sep) (b : ℕ) (s : List Sym) (bs n r : List ℕ) → is_pos n ≡ true → b ∷ bs ≡ n ++ byte c ∷ r → Gen s r → After (step (minus c ∷ s) b) bs
@@ -215,14 +208,14 @@ out_name c w b s bs good g = go (is_word (w ++ b ∷ [])) refl
         let k = whole w n b (byte c) bs g.1 good (and_parts (is_word n) _ g.0.1).0 (sep_alnum c) h g.2 in
         no! (is_word (w ++ b ∷ [])) _ _ bs h
         (yes! (is_name w) _ _ bs (subst (λ (x : List ℕ). is_name x ≡ true) (sym k.0) g.0.1)
-        (yes! (eqb b (byte c)) (some s) none bs (eq-eqb b (byte c) k.1) (subst (Gen s) (sym k.2) g.3)))
+        (yes! (eqb b (byte c)) (Some s) None bs (eq-eqb b (byte c) k.1) (subst (Gen s) (sym k.2) g.3)))
 
 in_name : (c : Sep) (w : List ℕ) (b : ℕ) (s : List Sym) (bs : List ℕ) → After (step (name c w ∷ s) b) bs → Gen (name c w ∷ s) (b ∷ bs)
 in_name c w b s bs a =
     split! (is_word (w ++ b ∷ [])) _ _ bs (Gen (name c w ∷ s) (b ∷ bs))
     (λ h g. (g.0, g.1, sym (append_assoc w (b ∷ []) bs) ∙ g.2, g.3))
     (λ _ k. split! (is_name w) _ _ bs (Gen (name c w ∷ s) (b ∷ bs))
-    (λ h k2. split! (eqb b (byte c)) (some s) none bs (Gen (name c w ∷ s) (b ∷ bs))
+    (λ h k2. split! (eqb b (byte c)) (Some s) None bs (Gen (name c w ∷ s) (b ∷ bs))
     (λ e g. ((w, h), bs, ap (λ (x : ℕ). w ++ x ∷ bs) (eqb-true b (byte c) e), g))
     (λ _ f. absurd f)
     k2)
@@ -351,7 +344,7 @@ end_expr c w b s bs good h (one o e1) r e g =
 end_expr c w b s bs good h (called n) r e g =
     let k = whole w n.0 b (byte c) bs r good (and_parts (is_word n.0) _ n.1).0 (sep_alnum c) h e in
     let q : kind_of w ≡ NameWord = ap kind_of k.0 ∙ kind_name n.0 n.1 in
-    subst (λ (x : Kind). After (behind x c b s) bs) (sym q) (yes! (eqb b (byte c)) (some s) none bs (eq-eqb b (byte c) k.1) (subst (Gen s) (sym k.2) g))
+    subst (λ (x : Kind). After (behind x c b s) bs) (sym q) (yes! (eqb b (byte c)) (Some s) None bs (eq-eqb b (byte c) k.1) (subst (Gen s) (sym k.2) g))
 
 out_expr : (c : Sep) (w : List ℕ) (b : ℕ) (s : List Sym) (bs : List ℕ) → Good w → Gen (expr c w ∷ s) (b ∷ bs) → After (step (expr c w ∷ s) b) bs
 out_expr c w b s bs good g = go (is_word (w ++ b ∷ [])) refl
@@ -440,7 +433,7 @@ in_end c w b s bs OneWord h a =
     (λ _ f. absurd f)
     a
 in_end c w b s bs NameWord h a =
-    split! (eqb b (byte c)) (some s) none bs (Gen (expr c w ∷ s) (b ∷ bs))
+    split! (eqb b (byte c)) (Some s) None bs (Gen (expr c w ∷ s) (b ∷ bs))
     (λ e g. (called (w, h), bs, ap (λ (x : ℕ). w ++ x ∷ bs) (eqb-true b (byte c) e), g))
     (λ _ f. absurd f)
     a
@@ -483,7 +476,7 @@ out_m b s bs r (model n) h g =
     (yes! (eqb b 111) _ _ bs (eq-eqb b 111 p) (_, q, (_, refl, (_, refl, (_, refl, (n, _, refl, g))))))
 
 out_line : (b : ℕ) (bs : List ℕ) (ls : List Line) → b ∷ bs ≡ print ls → After (step [] b) bs
-out_line b bs [] e = let z : ◌≡◌ {A = ℕ} 0 1 = cc in absurd (omega arith)
+out_line b bs [] e = cc
 out_line b bs (part n e ∷ ls) h =
     let p : b ≡ 112 = cc in
     yes! (eqb b 112) _ _ bs (eq-eqb b 112 p) (part n e, print ls, ap (λ (x : ℕ). x ∷ bs) (sym p) ∙ h, (ls, refl))

@@ -1,7 +1,7 @@
 -- Which fault of a text comes first.
-use Rattle.std.proofs.Common.{◌≡◌, ℕ, suc, ◌+◌, ◌-◌, ◌<◌, ◌≤◌, Bool, true, false, cond, not, ◌&&◌, eqb, ltb, leb, ◌⊎◌, List, [], ◌∷◌, ◌++◌, length, get_or, take, drop, codes, filter, sym, refl, ap, ◌∙◌, subst, inl, inr, append-nil, arith, length-take, le-ltb}
+use Rattle.std.proofs.Common.{◌≡◌, ℕ, suc, ◌+◌, ◌-◌, ◌<◌, ◌≤◌, Bool, true, false, cond, not, ◌&&◌, eqb, ltb, leb, ◌⊎◌, List, [], ◌∷◌, ◌++◌, length, get_or, take, drop, codes, sym, refl, ap, ◌∙◌, subst, inl, inr, append-nil, arith, length-take, le-ltb}
 use Rattle.std.specs.List.{ContainsAt, AllByRecursion}
-use Rattle.std.proofs.ByRecursion.{All-append, All-weaker, All-get_or, All-map, all-has}
+use Rattle.std.proofs.ByRecursion.{All-append, All-weaker, All-get_or, All-map, all-has, all_kept_by}
 use Rattle.std.proofs.lemmas.Bool.{cases_order, cond-false, and_left}
 use Rattle.std.proofs.lemmas.List.{take_all}
 use Rattle.grammar.specs.Grammar.{same, one_of, is_name, Text, Refused}
@@ -58,19 +58,11 @@ module _ (P : ℕ → Type 0) where
   scan_places names (measure ∷ rs) (t ∷ ts) s = so_place (beyond t.word) 4 t (scan names rs ts) s.0 (scan_places names rs ts s.1)
   scan_places names (scale ∷ rs) (t ∷ ts) s = so_place (no_scale t.word) 4 t (scan names rs ts) s.0 (scan_places names rs ts s.1)
 
-all_kept : {X : Type 0} (P : X → Type 0) (f : X → Bool) (xs : List X) → AllByRecursion P xs → AllByRecursion P (filter f xs)
-all_kept P f [] s = tt
-all_kept P f (x ∷ xs) s = go (f x) (all_kept P f xs s.1)
-  where
-    go : (b : Bool) → AllByRecursion P (filter f xs) → AllByRecursion P (cond b (x ∷ filter f xs) (filter f xs))
-    go true a = (s.0, a)
-    go false a = a
-
 -- a fault of words is told within the bytes
 pub faults_inside : (read : ℕ) (bs : List ℕ) → AllByRecursion (λ f. f.place < length bs) (word_faults read bs)
 faults_inside read bs =
     scan_places (λ p. p < length bs) [] [] (looked read bs)
-    (all_kept (λ t. t.start < length bs) (λ t. leb (t.start + length t.word) read) (tokens bs)
+    (all_kept_by (λ t. leb (t.start + length t.word) read) (λ t. t.start < length bs) (tokens bs)
     (All-map (λ t. t.start < length bs) (λ p. token p (tok_at (drop p bs))) (starts_from false 0 bs) (all_inside bs)))
 
 -- bytes begin a text so far and no farther

@@ -6,9 +6,6 @@ use Rattle.std.proofs.lemmas.Bool.{both_ways, and_parts, and_from, eqb-true, ne_
 use Rattle.grammar.specs.Grammar.{is_num, is_pos, is_empty, digit, digit1, all, decimal, signed}
 
 -- digits as bytes, and back
-ups : List ℕ → List ℕ
-ups ds = map (λ d. 48 + d) ds
-
 digit_up : (d : ℕ) → d < 10 → digit (48 + d) ≡ true
 digit_up d h = and_from (leb 48 (48 + d)) (leb (48 + d) 57) (le-leb 48 (48 + d) (omega arith)) (le-leb (48 + d) 57 (omega arith))
 

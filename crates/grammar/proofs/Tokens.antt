@@ -1,5 +1,5 @@
 -- The tokens of a text are the code of its lines.
-use Rattle.std.proofs.Common.{◌≡◌, ℕ, zero, suc, ◌+◌, ◌<◌, ◌≤◌, Bool, true, false, not, ◌&&◌, List, [], ◌∷◌, ◌++◌, map, length, get_or, drop, ℤ, codes, sym, refl, ap, ◌∙◌, append_assoc, append-nil, add-one, arith}
+use Rattle.std.proofs.Common.{◌≡◌, ℕ, zero, suc, ◌+◌, ◌<◌, ◌≤◌, Bool, true, false, not, ◌&&◌, List, [], ◌∷◌, ◌++◌, map, length, get_or, drop, ℤ, codes, sym, refl, ap, ◌∙◌, append_assoc, append-nil, add-one}
 use Rattle.std.proofs.lemmas.List.{drop_more, drop_all}
 use Rattle.std.proofs.lemmas.Bool.{both_ways, and_parts, cond-true, cond-false}
 use Rattle.grammar.specs.Grammar.{Expr, half, box, two, move, one, called, Line, part, place, same_as, meet, model, on_e, on_l, print, two_word, one_word, signed, all, Name, is_name, is_num, Two, both, either, without, One, mirror, swap, turn}
@@ -108,8 +108,8 @@ map_mark true i xs ps = refl
 map_mark false i xs ps = refl
 
 pub drop_next : (xs : List ℕ) (i b : ℕ) (ys : List ℕ) → drop i xs ≡ b ∷ ys → drop (suc i) xs ≡ ys
-drop_next [] zero b ys e = let z : ◌≡◌ {A = ℕ} 0 1 = cc in absurd (omega arith)
-drop_next [] (suc i) b ys e = let z : ◌≡◌ {A = ℕ} 0 1 = cc in absurd (omega arith)
+drop_next [] zero b ys e = cc
+drop_next [] (suc i) b ys e = cc
 drop_next (x ∷ xs) zero b ys e = cc
 drop_next (x ∷ xs) (suc i) b ys e = drop_next xs i b ys e
 

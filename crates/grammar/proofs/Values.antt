@@ -1,8 +1,8 @@
 -- What digits write.
-use Rattle.std.proofs.Common.{◌≡◌, ℕ, suc, ◌+◌, ◌-◌, ◌*◌, ◌<◌, ◌≤◌, Bool, true, false, cond, eqb, leb, List, [], ◌∷◌, ◌++◌, length, get_or, drop, ℤ, pos, negsuc, sym, refl, ap, ◌∙◌, append-nil, arith}
+use Rattle.std.proofs.Common.{◌≡◌, ℕ, suc, ◌+◌, ◌-◌, ◌*◌, ◌<◌, ◌≤◌, Bool, true, false, cond, eqb, List, [], ◌∷◌, ◌++◌, length, get_or, drop, ℤ, pos, negsuc, sym, refl, ap, ◌∙◌, append-nil, arith}
 use Rattle.std.specs.Int.Digits.{number_from_digits_after}
 use Rattle.std.proofs.lemmas.List.{drop_more}
-use Rattle.std.proofs.lemmas.Bool.{and_parts, cond-true, cond-false, or_parts, le-leb, lt-leb, and_from, and_left, and_right}
+use Rattle.std.proofs.lemmas.Bool.{and_parts, cond-true, cond-false, or_parts}
 use Rattle.grammar.specs.Grammar.{digit, letter, alnum, all, decimal, signed}
 use Rattle.grammar.specs.Tokens.{in_tok, tok_at}
 use Rattle.grammar.specs.Values.{read_on}
@@ -54,15 +54,6 @@ read_more xs i v h d = sym (ap (read_on v) (drop_more xs i 0 h) ∙ cond-true (d
 pub read_stop : (xs : List ℕ) (i v : ℕ) → i < length xs → digit (get_or xs i 0) ≡ false → read_on v (drop i xs) ≡ v
 read_stop xs i v h d = ap (read_on v) (drop_more xs i 0 h) ∙ cond-false (digit (get_or xs i 0)) _ _ d
 
-pub digit_yes : (b : ℕ) → 48 ≤ b → b ≤ 57 → digit b ≡ true
-digit_yes b h k = and_from (leb 48 b) (leb b 57) (le-leb 48 b h) (le-leb b 57 k)
-
-pub digit_low : (b : ℕ) → b < 48 → digit b ≡ false
-digit_low b h = and_left (leb 48 b) (leb b 57) (lt-leb 48 b h)
-
-pub digit_high : (b : ℕ) → 57 < b → digit b ≡ false
-digit_high b h = and_right (leb 48 b) (leb b 57) (lt-leb b 57 h)
-
 -- a number's first byte
 first_is : (xs : List ℕ) (at : ℕ) → at < length xs → get_or xs at 0 ≡ 45 → (z : ℤ) → tok_at (drop at xs) ≡ signed z → 45 ∷ tok_at (drop (at + 1) xs) ≡ signed z
 first_is xs at h m z e = ap tok_at (sym (drop_more xs at 0 h ∙ ap (λ (b : ℕ). b ∷ drop (at + 1) xs) m)) ∙ e
@@ -79,7 +70,7 @@ no_front b r w m e = go (in_tok b) e
   where
     go : (t : Bool) → cond t (b ∷ tok_at r) [] ≡ 45 ∷ w → ⊥
     go true f = let g : b ≡ 45 = cc in m g
-    go false f = let z : ◌≡◌ {A = ℕ} 0 1 = cc in omega arith
+    go false f = cc
 
 pub first_plain : (xs : List ℕ) (at : ℕ) (z : ℤ) → at < length xs → (get_or xs at 0 ≡ 45 → ⊥) → tok_at (drop at xs) ≡ signed z → (n : ℕ) × (z ≡ pos n) × (read_on 0 (drop at xs) ≡ n)
 first_plain xs at (pos n) h m e = (n, refl, read_decimal (drop at xs) n e)

@@ -1,6 +1,5 @@
 -- The machine's runs: which bytes begin a text, and which are one.
-use Rattle.std.proofs.Common.{◌≡◌, ℕ, ◌+◌, ◌<◌, Bool, true, false, cond, not, ◌&&◌, eqb, ◌⊎◌, List, [], ◌∷◌, ◌++◌, length, get_or, take, pos, codes, sym, refl, ap, ◌∙◌, subst, inl, inr, append_assoc, append-nil, arith}
-use mathlib.Core.Option.{Option, none, some}
+use Rattle.std.proofs.Common.{◌≡◌, ℕ, ◌+◌, ◌<◌, Bool, true, false, cond, not, ◌&&◌, eqb, ◌⊎◌, List, [], ◌∷◌, ◌++◌, length, get_or, take, pos, codes, sym, refl, ap, ◌∙◌, subst, inl, inr, append_assoc, append-nil, arith, Option, Some, None}
 use Rattle.std.proofs.lemmas.Bool.{both_ways, and_parts, or_cases, cond_both, not-false, and_cases, and_left, and_right}
 use Rattle.std.proofs.lemmas.List.{take_more, take_all}
 use Rattle.grammar.specs.Grammar.{Expr, half, box, two, move, one, called, both, either, without, mirror, swap, turn, Line, part, place, same_as, meet, model, on_e, on_l, Text, Viable, Refused, is_word, is_name, is_empty, digit, digit1, alnum, all, same, one_of, reserved, signed}
@@ -12,8 +11,8 @@ use Rattle.grammar.proofs.Exact.{Gen, After, Sound, out, back, alnum_good, sep_a
 
 -- soundness stays
 abbrev pub SoundO : Option (List Sym) → Type 0
-SoundO none = Unit {0}
-SoundO (some s) = Sound s
+SoundO None = Unit {0}
+SoundO (Some s) = Sound s
 
 pub good_more : (w : List ℕ) (b : ℕ) → is_word (w ++ b ∷ []) ≡ true → Good (w ++ b ∷ [])
 good_more [] b h = h
@@ -49,18 +48,18 @@ keep (expr c w ∷ s) b h = cond_both (is_word (w ++ b ∷ [])) _ _ SoundO (λ e
 
 pub keep_run : (u : List ℕ) (o : Option (List Sym)) → SoundO o → SoundO (run o u)
 keep_run [] o h = h
-keep_run (b ∷ u) none h = tt
-keep_run (b ∷ u) (some s) h = keep_run u (step s b) (keep s b h)
+keep_run (b ∷ u) None h = tt
+keep_run (b ∷ u) (Some s) h = keep_run u (step s b) (keep s b h)
 
 pub out_run : (u : List ℕ) (o : Option (List Sym)) (v : List ℕ) → SoundO o → After o (u ++ v) → After (run o u) v
 out_run [] o v h a = a
-out_run (b ∷ u) none v h a = absurd a
-out_run (b ∷ u) (some s) v h a = out_run u (step s b) v (keep s b h) (out s b (u ++ v) h a)
+out_run (b ∷ u) None v h a = absurd a
+out_run (b ∷ u) (Some s) v h a = out_run u (step s b) v (keep s b h) (out s b (u ++ v) h a)
 
 pub back_run : (u : List ℕ) (o : Option (List Sym)) (v : List ℕ) → After (run o u) v → After o (u ++ v)
 back_run [] o v a = a
-back_run (b ∷ u) none v a = absurd a
-back_run (b ∷ u) (some s) v a = back s b (u ++ v) (back_run u (step s b) v a)
+back_run (b ∷ u) None v a = absurd a
+back_run (b ∷ u) (Some s) v a = back s b (u ++ v) (back_run u (step s b) v a)
 
 -- how a word ends as a name: as it is, or one byte on
 abbrev ext : List ℕ → List ℕ
@@ -137,18 +136,18 @@ hit_expr (one turn e1) d r h = refl
 hit_expr (called n) d r h = hit n.0 d r h
 
 nil_ne : (n : List ℕ) (d : ℕ) (r : List ℕ) → [] ≡ n ++ d ∷ r → ⊥
-nil_ne [] d r e = let z : ◌≡◌ {A = ℕ} 0 1 = cc in omega arith
-nil_ne (x ∷ n) d r e = let z : ◌≡◌ {A = ℕ} 0 1 = cc in omega arith
+nil_ne [] d r e = cc
+nil_ne (x ∷ n) d r e = cc
 
 open_word : (w x : List ℕ) → Good w → w ++ [] ≡ x → all alnum x ≡ false → ⊥
 open_word w x h e f = both_ways (all alnum x) f (subst (λ (y : List ℕ). all alnum y ≡ true) (sym (append-nil w) ∙ e) (alnum_good w h))
 
 not_one : (b : ℕ) (l : Line) (r : List ℕ) → b ∷ [] ≡ on_l l r → ⊥
-not_one b (part n e) r h = let z : ◌≡◌ {A = ℕ} 0 1 = cc in omega arith
-not_one b (place n x y z w) r h = let z : ◌≡◌ {A = ℕ} 0 1 = cc in omega arith
-not_one b (same_as n m) r h = let z : ◌≡◌ {A = ℕ} 0 1 = cc in omega arith
-not_one b (meet n m) r h = let z : ◌≡◌ {A = ℕ} 0 1 = cc in omega arith
-not_one b (model n) r h = let z : ◌≡◌ {A = ℕ} 0 1 = cc in omega arith
+not_one b (part n e) r h = cc
+not_one b (place n x y z w) r h = cc
+not_one b (same_as n m) r h = cc
+not_one b (meet n m) r h = cc
+not_one b (model n) r h = cc
 
 pub ends : (s : List Sym) → Sound s → Gen s [] → s ≡ []
 ends [] h g = refl
@@ -163,21 +162,21 @@ ends (expr c w ∷ s) h g = absurd (open_word w _ h.0 g.2 (hit_expr g.0 (byte c)
 
 -- what the machine says of bytes, in the words of the printer
 abbrev pub start : Option (List Sym)
-start = some []
+start = Some []
 
-pub viable_from_run : (u : List ℕ) (s : List Sym) → run start u ≡ some s → Viable u
+pub viable_from_run : (u : List ℕ) (s : List Sym) → run start u ≡ Some s → Viable u
 viable_from_run u s e =
     let h : Sound s = subst SoundO e (keep_run u start tt) in
     (finish s, back_run u start (finish s) (subst (λ o. After o (finish s)) (sym e) (finishes s h)))
 
-pub not_viable : (u : List ℕ) → run start u ≡ none → Viable u → ⊥
+pub not_viable : (u : List ℕ) → run start u ≡ None → Viable u → ⊥
 not_viable u e v = subst (λ o. After o v.0) e (out_run u start v.0 tt v.1)
 
-pub text_from_run : (u : List ℕ) → run start u ≡ some [] → Text u
+pub text_from_run : (u : List ℕ) → run start u ≡ Some [] → Text u
 text_from_run u e =
     subst Text (append-nil u) (back_run u start [] (subst (λ o. After o []) (sym e) ([], refl)))
 
-pub run_from_text : (u : List ℕ) (s : List Sym) → run start u ≡ some s → Text u → s ≡ []
+pub run_from_text : (u : List ℕ) (s : List Sym) → run start u ≡ Some s → Text u → s ≡ []
 run_from_text u s e t =
     ends s (subst SoundO e (keep_run u start tt))
     (subst (λ o. After o []) e (out_run u start [] tt (subst Text (sym (append-nil u)) t)))
@@ -185,14 +184,14 @@ run_from_text u s e t =
 -- one byte more
 run_push : (u : List ℕ) (o : Option (List Sym)) (b : ℕ) → run o (u ++ b ∷ []) ≡ run (run o u) (b ∷ [])
 run_push [] o b = refl
-run_push (x ∷ u) none b = refl
-run_push (x ∷ u) (some s) b = run_push u (step s x) b
+run_push (x ∷ u) None b = refl
+run_push (x ∷ u) (Some s) b = run_push u (step s x) b
 
-pub run_more : (bs : List ℕ) (i : ℕ) (s : List Sym) → i < length bs → run start (take i bs) ≡ some s → run start (take (i + 1) bs) ≡ step s (get_or bs i 0)
+pub run_more : (bs : List ℕ) (i : ℕ) (s : List Sym) → i < length bs → run start (take i bs) ≡ Some s → run start (take (i + 1) bs) ≡ step s (get_or bs i 0)
 run_more bs i s h e =
     ap (run start) (take_more bs i 0 h) ∙ run_push (take i bs) start (get_or bs i 0) ∙ ap (λ (o : Option (List Sym)). run o (get_or bs i 0 ∷ [])) e
 
-pub refused_here : (bs : List ℕ) (p : ℕ) (s : List Sym) → p < length bs → run start (take p bs) ≡ some s → step s (get_or bs p 0) ≡ none → Refused bs p
+pub refused_here : (bs : List ℕ) (p : ℕ) (s : List Sym) → p < length bs → run start (take p bs) ≡ Some s → step s (get_or bs p 0) ≡ None → Refused bs p
 refused_here bs p s h e f =
     record {
       inside = omega arith;
@@ -201,7 +200,7 @@ refused_here bs p s h e f =
       no_text = λ q. absurd (omega arith);
     }
 
-pub refused_end : (bs : List ℕ) (s : List Sym) → run start bs ≡ some s → (s ≡ [] → ⊥) → Refused bs (length bs)
+pub refused_end : (bs : List ℕ) (s : List Sym) → run start bs ≡ Some s → (s ≡ [] → ⊥) → Refused bs (length bs)
 refused_end bs s e f =
     record {
       inside = omega arith;

@@ -1,21 +1,21 @@
 -- How deep the stack can get.
-use Rattle.std.proofs.Common.{◌≡◌, ℕ, zero, suc, ◌+◌, ◌*◌, ◌≤◌, eqb, List, [], ◌∷◌, ◌++◌, length, get_or, sym, refl, ap, subst, arith}
-use mathlib.Core.Option.{Option, none, some}
+use Rattle.std.proofs.Common.{◌≡◌, ℕ, suc, ◌+◌, ◌*◌, ◌≤◌, eqb, List, [], ◌∷◌, ◌++◌, length, sym, refl, ap, subst, arith, Option, Some, None}
 use Rattle.std.proofs.lemmas.Bool.{cond_both}
 use Rattle.grammar.specs.declared.types.Sep.{Sep}
 use Rattle.grammar.specs.declared.types.Kind.{Kind}
 use Rattle.grammar.specs.declared.types.Kind.TheVariants.{HalfWord, BoxWord, TwoWord, MoveWord, OneWord, NameWord, NoWord}
 use Rattle.reader.specs.declared.types.Want.{Want}
-use Rattle.reader.specs.declared.types.Want.TheVariants.{Lit, Num, Minus, Digits, Name, Shape, AfterP, AfterM}
+use Rattle.reader.specs.declared.types.Want.TheVariants.{Lit, Number, Name, Shape, AfterP, AfterM}
+use Rattle.reader.specs.declared.types.Number.TheVariants.{Start, Minus, Digits}
 use Rattle.grammar.specs.Grammar.{is_word, is_name, digit, digit1, Two, both, either, without, One, mirror, swap, turn, two_word, one_word}
 use Rattle.grammar.specs.Machine.{Sym, lit, num, minus, digits, name, expr, after_p, after_m, byte, kind_of, behind, step}
-use Rattle.reader.specs.Stack.{stack_of, lift, want_of}
+use Rattle.reader.specs.Stack.{symbols, lift}
 use Rattle.grammar.proofs.Exact.{Tells, tells, Sound}
 
 -- of two measures of the stack, one bounds the next stack: nine, or this one with two for each byte of the word and two more
 abbrev pub Size : ℕ → ℕ → Option (List Sym) → Type 0
-Size n m none = Unit {0}
-Size n m (some s) = 9 ≤ m → n ≤ m → length s ≤ m
+Size n m None = Unit {0}
+Size n m (Some s) = 9 ≤ m → n ≤ m → length s ≤ m
 
 abbrev pub reach : List Sym → ℕ
 reach [] = 0
@@ -81,28 +81,27 @@ grow (name c w ∷ s) b m h =
 grow (expr c w ∷ s) b m h =
     cond_both (is_word (w ++ b ∷ [])) _ _ (Size (suc (length s) + 2 * length w) m) (λ _ p q. omega arith) (λ _. grow_end (kind_of w) c w b s m (tells w))
 
--- on the stack of words
-pub stack_length : (st : List ℕ) (d : ℕ) (w : List ℕ) → length (stack_of st d w) ≡ d
-stack_length st zero w = refl
-stack_length st (suc k) w = ap suc (stack_length st k [])
+-- on what is expected
+pub length_symbols : (xs : List Want) (w : List ℕ) → length (symbols xs w) ≡ length xs
+length_symbols [] w = refl
+length_symbols (x ∷ xs) w = ap suc (length_symbols xs [])
 
 reach-lift : (x : Want) (w : List ℕ) (s : List Sym) → reach (lift x w ∷ s) ≤ suc (length s) + 2 * length w
 reach-lift (Lit b) w s = omega arith
-reach-lift (Num c) w s = omega arith
-reach-lift (Minus c) w s = omega arith
-reach-lift (Digits c) w s = omega arith
+reach-lift (Number Start c) w s = omega arith
+reach-lift (Number Minus c) w s = omega arith
+reach-lift (Number Digits c) w s = omega arith
 reach-lift (Name c) w s = omega arith
 reach-lift (Shape c) w s = omega arith
 reach-lift AfterP w s = omega arith
 reach-lift AfterM w s = omega arith
 
-reach_stack : (st : List ℕ) (d : ℕ) (w : List ℕ) → reach (stack_of st d w) ≤ d + 2 * length w
-reach_stack st zero w = omega arith
-reach_stack st (suc k) w =
-    omega (arith, reach-lift (want_of (get_or st k 0)) w (stack_of st k []), stack_length st k [])
+reach_symbols : (xs : List Want) (w : List ℕ) → reach (symbols xs w) ≤ length xs + 2 * length w
+reach_symbols [] w = omega arith
+reach_symbols (x ∷ xs) w = omega (arith, reach-lift x w (symbols xs []), length_symbols xs [])
 
--- the next depth
-pub deeper : (st st' w : List ℕ) (depth d b m : ℕ) → Sound (stack_of st depth w) → step (stack_of st depth w) b ≡ some (stack_of st' d []) → 9 ≤ m → depth + 2 * length w ≤ m → d ≤ m
-deeper st st' w depth d b m h e p q =
-    let k : Size (reach (stack_of st depth w)) m (some (stack_of st' d [])) = subst (Size (reach (stack_of st depth w)) m) e (grow (stack_of st depth w) b m h) in
-    omega (arith, k p (omega (arith, reach_stack st depth w)), stack_length st' d [])
+-- how much is expected next
+pub deeper : (xs ys : List Want) (w : List ℕ) (b m : ℕ) → Sound (symbols xs w) → step (symbols xs w) b ≡ Some (symbols ys []) → 9 ≤ m → length xs + 2 * length w ≤ m → length ys ≤ m
+deeper xs ys w b m h e p q =
+    let k : Size (reach (symbols xs w)) m (Some (symbols ys [])) = subst (Size (reach (symbols xs w)) m) e (grow (symbols xs w) b m h) in
+    omega (arith, k p (omega (arith, reach_symbols xs w)), length_symbols ys [])

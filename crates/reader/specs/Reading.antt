@@ -1,5 +1,5 @@
 -- What the reader says of a text.
-use Rattle.std.specs.Prelude.{◌≡◌, ℕ, ⊤, ◌+◌, ◌*◌, ◌≤◌, true, false, List, [], ◌∷◌, length, take, Ok, Err, Result, slice_range}
+use Rattle.std.specs.Prelude.{◌≡◌, ℕ, ⊤, ◌+◌, ◌*◌, ◌≤◌, true, false, List, [], ◌∷◌, length, take, Ok, Err, Result}
 use Rattle.grammar.specs.Grammar.{Text, Refused, Line, print}
 use Rattle.grammar.specs.Meaning.{fine}
 use Rattle.grammar.specs.Faults.{Fault, word_faults, looked, most_bytes, Reaches, FirstFault}
@@ -16,10 +16,6 @@ use Rattle.reader.specs.Scan.{told, named_in}
 abbrev pub Says : Result ⊤ ℕ → List ℕ → Type 0
 Says (Ok _) bs = Text bs
 Says (Err p) bs = Refused bs p
-
--- the bytes from s to i
-abbrev pub between : ℕ → ℕ → List ℕ → List ℕ
-between s i bs = slice_range bs s i
 
 -- how far the bytes that are read begin a text, and whether they are one
 pub record Reached (r : Result ⊤ ℕ) (at : ℕ) (bs : List ℕ) : Type 0 where

@@ -1,54 +1,60 @@
--- The stack as it lies in words: the last of the first `depth` words is the top.
-use Rattle.std.specs.Prelude.{◌≡◌, ℕ, zero, suc, ◌+◌, ◌-◌, ◌/◌, ◌%◌, ◌≤◌, true, cond, List, [], ◌∷◌, ◌++◌, ◌==◌, nat_lt, slice_index}
-use Rattle.std.proofs.Math.Option.{Option, none, some}
-use Rattle.grammar.specs.declared.types.Sep.{Sep}
-use Rattle.grammar.specs.declared.types.Sep.TheVariants.{Space, Comma, Close, End}
+-- The stack of what is still expected, as it lies in words: the last of the first `depth` words is what comes first.
+use Rattle.std.specs.Prelude.{◌≡◌, ℕ, zero, suc, ◌/◌, ◌%◌, Bool, true, false, cond, List, [], ◌∷◌, length, Option, ◌==◌, slice_index, option_map, unwrap_or}
+use Rattle.grammar.specs.declared.types.Sep.TheVariants.{End}
+use Rattle.reader.specs.declared.types.Number.TheVariants.{Start, Minus, Digits}
 use Rattle.reader.specs.declared.types.Want.{Want}
-use Rattle.reader.specs.declared.types.Want.TheVariants.{Lit, Num, Minus, Digits, Name, Shape, AfterP, AfterM}
-use Rattle.reader.specs.declared.types.Went.{Went}
-use Rattle.reader.specs.declared.types.Went.TheVariants.{Stuck, On, Word}
-use Rattle.grammar.specs.Grammar.{is_word}
-use Rattle.grammar.specs.Machine.{Sym, lit, num, minus, digits, name, expr, after_p, after_m}
+use Rattle.reader.specs.declared.types.Want.TheVariants.{Lit, Number, Name, Shape, AfterP, AfterM}
+use Rattle.grammar.specs.Machine.{Sym, lit, num, minus, digits, name, expr, after_p, after_m, sep_of}
 
-abbrev pub sep_of : ℕ → Sep
-sep_of i = cond (i == 0) Space (cond (i == 1) Comma (cond (i == 2) Close End))
-
-abbrev pub want_at : ℕ → Sep → Want
-want_at t c = cond (t == 0) (Num c) (cond (t == 1) (Minus c) (cond (t == 2) (Digits c) (cond (t == 3) (Name c) (Shape c))))
+-- a word is what is expected, 256 times its number, and a byte: the one expected, or the one that ends it
+abbrev pub want_at : ℕ → ℕ → Want
+want_at tag b =
+    let c = unwrap_or (sep_of b) End in
+    cond (tag == 0) (Lit b)
+    (cond (tag == 1) (Number Start c)
+    (cond (tag == 2) (Number Minus c) (cond (tag == 3) (Number Digits c) (cond (tag == 4) (Name c) (cond (tag == 5) (Shape c) (cond (tag == 6) AfterP AfterM))))))
 
 abbrev pub want_of : ℕ → Want
-want_of x =
-    cond (nat_lt x 256) (Lit x)
-    (cond (x == 276) AfterP (cond (x == 277) AfterM (want_at ((x - 256) / 4) (sep_of ((x - 256) % 4)))))
+want_of x = want_at (x / 256) (x % 256)
+
+-- what the first `depth` words say is expected, what comes first in front
+abbrev pub wants_of : ℕ → List ℕ → List Want
+wants_of zero ws = []
+wants_of (suc k) ws = want_of (slice_index ws k) ∷ wants_of k ws
+
+-- what is expected, what comes first in front, and how much fits
+pub record Pile : Type 0 where
+  pub wants : List Want
+  pub size : ℕ
+
+abbrev pub pile_of : ℕ → List ℕ → Pile
+pile_of depth ws = record { wants = wants_of depth ws; size = length ws }
 
 -- with the bytes so far of the word that is being read
 abbrev pub lift : Want → List ℕ → Sym
 lift (Lit b) w = lit b
-lift (Num c) w = num c
-lift (Minus c) w = minus c
-lift (Digits c) w = digits c
+lift (Number Start c) w = num c
+lift (Number Minus c) w = minus c
+lift (Number Digits c) w = digits c
 lift (Name c) w = name c w
 lift (Shape c) w = expr c w
 lift AfterP w = after_p
 lift AfterM w = after_m
 
-abbrev pub stack_of : List ℕ → ℕ → List ℕ → List Sym
-stack_of st zero w = []
-stack_of st (suc k) w = lift (want_of (slice_index st k)) w ∷ stack_of st k []
+abbrev pub symbols : List Want → List ℕ → List Sym
+symbols [] w = []
+symbols (x ∷ xs) w = lift x w ∷ symbols xs []
 
--- what one byte did, with the stack of words st after it, w the word before it and o the machine's next stack
-abbrev pub Goes : Went → Option (List Sym) → List ℕ → ℕ → List ℕ → ℕ → Type 0
-Goes Stuck o st depth w b = o ≡ none
-Goes (On d) o st depth w b = (o ≡ some (stack_of st d [])) × (d ≤ depth + 8)
-Goes Word o st depth w b = (o ≡ some (stack_of st depth (w ++ b ∷ []))) × (is_word (w ++ b ∷ []) ≡ true)
+-- whether a word is expected first
+abbrev pub takes_word : List Want → Bool
+takes_word [] = false
+takes_word (Lit b ∷ xs) = false
+takes_word (Number n c ∷ xs) = false
+takes_word (Name c ∷ xs) = true
+takes_word (Shape c ∷ xs) = true
+takes_word (AfterP ∷ xs) = false
+takes_word (AfterM ∷ xs) = false
 
--- a number, or the rest of one
-abbrev pub Number : Want → Type 0
-Number (Lit b) = ⊥
-Number (Num c) = Unit {0}
-Number (Minus c) = Unit {0}
-Number (Digits c) = Unit {0}
-Number (Name c) = ⊥
-Number (Shape c) = ⊥
-Number AfterP = ⊥
-Number AfterM = ⊥
+-- what a byte did to the stack, where no word is being read behind it: o is the machine's next stack, if the byte can stand there
+abbrev pub Goes : Option Unit → Option (List Sym) → Pile → Pile → Type 0
+Goes r o old new = (o ≡ option_map (λ _. symbols new.wants []) r) × (new.size ≡ old.size)

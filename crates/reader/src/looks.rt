@@ -5,7 +5,7 @@ ghost use Rattle.grammar.specs.Faults.{token, beyond, no_scale};
 ghost use Rattle.grammar.specs.Grammar.{is_word, is_name, one_of};
 ghost use Rattle.reader.specs.Scan.{Looked};
 
-use super::spelling::{is_alnum, is_letter, word_kind};
+use super::spelling::{Word, is_alnum, is_letter};
 use super::tokens::amount_of;
 use super::types::{Expect, Refusal};
 use super::word_list::WordList;
@@ -57,10 +57,11 @@ fn is_word(word: &[u8]) -> bool
 }
 
 /// Whether the bytes are a name.
+#[tactic(auto, using(crate::proofs::Words::kind_same))]
 fn is_name(word: &[u8]) -> bool
     ensures { result ≡ is_name word.now }
 {
-    is_word(word) && word_kind(word) == Kind::NameWord
+    is_word(word) && Word::new(word).kind() == Kind::NameWord
 }
 
 /// The refusal where a word is wrong, else what is expected behind it.

@@ -1,237 +1,191 @@
 //! The grammar's machine: one byte after the other, over the stack of what is still expected.
 
-ghost use Rattle.std.specs.Prelude.{◌≡◌, ℕ, ◌+◌, ◌-◌, ◌*◌, ◌<◌, ◌≤◌, List, [], ◌∷◌, length};
-ghost use Rattle.grammar.specs.Machine.{Good, step, behind};
+ghost use Rattle.std.specs.Prelude.{◌≡◌, ◌+◌, ◌*◌, ◌<◌, ◌≤◌, false, ◌&&◌, [], ◌∷◌, ◌++◌, length};
+ghost use Rattle.grammar.specs.Grammar.{is_word};
+ghost use Rattle.grammar.specs.Machine.{step, behind, after_p, after_m};
 ghost use Rattle.reader.specs.Reading.{Says};
-ghost use Rattle.reader.specs.Stack.{lift, stack_of, Goes, Number};
+ghost use Rattle.reader.specs.Stack.{symbols, takes_word, Goes};
 
-use super::spelling::{ends_name, goes_on, sep_byte, word_kind};
-use super::stack::{push, top};
-use super::types::{Want, Went};
+use super::spelling::Word;
+use super::stack::Stack;
+use super::types::{Number, Want};
 use grammar::types::{Kind, Sep};
 
 /// A byte where a line may begin.
-pub(crate) fn at_line(stack: &mut [u64], b: u8) -> Went
-    requires { 6 ≤ length stack.old }
-    ensures { Goes result (step [] b) stack.new 0 [] b }
+fn at_line(stack: &mut Stack<'_>, b: u8) -> Option<()>
+    requires empty { stack.old.wants ≡ [] }
+    requires room { 6 ≤ stack.old.size }
+    ensures { Goes result (step [] b) stack.old stack.new }
 {
     match b {
-        b'p' => Went::On(push(stack, 0, Want::AfterP)),
-        b'm' => Went::On(push(stack, 0, Want::AfterM)),
-        b's' => {
-            let d = push(stack, 0, Want::Name(Sep::End));
-            let d = push(stack, d, Want::Name(Sep::Space));
-            let d = push(stack, d, Want::Lit(b' '));
-            let d = push(stack, d, Want::Lit(b'e'));
-            let d = push(stack, d, Want::Lit(b'm'));
-            Went::On(push(stack, d, Want::Lit(b'a')))
-        }
-        _ => Went::Stuck,
+        b'p' => stack.push(Want::AfterP),
+        b'm' => stack.push(Want::AfterM),
+        b's' => stack.expect(&[
+            Want::Lit(b'a'),
+            Want::Lit(b'm'),
+            Want::Lit(b'e'),
+            Want::Lit(b' '),
+            Want::Name(Sep::Space),
+            Want::Name(Sep::End),
+        ]),
+        _ => return None,
     }
+    Some(())
 }
 
 /// The second byte of a line that begins with p.
-pub(crate) fn after_p(stack: &mut [u64], depth: usize, b: u8) -> Went
-    requires { depth + 9 ≤ length stack.old }
-    ensures { (w : List ℕ) → Goes result (step (lift Want.AfterP w ∷ stack_of stack.old depth []) b) stack.new (depth + 1) w b }
+fn after_p(stack: &mut Stack<'_>, b: u8) -> Option<()>
+    requires { length stack.old.wants + 9 ≤ stack.old.size }
+    ensures { Goes result (step (after_p ∷ symbols stack.old.wants []) b) stack.old stack.new }
 {
     match b {
-        b'a' => {
-            let d = push(stack, depth, Want::Shape(Sep::End));
-            let d = push(stack, d, Want::Lit(b' '));
-            let d = push(stack, d, Want::Lit(b'='));
-            let d = push(stack, d, Want::Name(Sep::Space));
-            let d = push(stack, d, Want::Lit(b' '));
-            let d = push(stack, d, Want::Lit(b't'));
-            Went::On(push(stack, d, Want::Lit(b'r')))
-        }
-        b'l' => {
-            let d = push(stack, depth, Want::Num(Sep::End));
-            let d = push(stack, d, Want::Num(Sep::Space));
-            let d = push(stack, d, Want::Num(Sep::Space));
-            let d = push(stack, d, Want::Num(Sep::Space));
-            let d = push(stack, d, Want::Name(Sep::Space));
-            let d = push(stack, d, Want::Lit(b' '));
-            let d = push(stack, d, Want::Lit(b'e'));
-            let d = push(stack, d, Want::Lit(b'c'));
-            Went::On(push(stack, d, Want::Lit(b'a')))
-        }
-        _ => Went::Stuck,
+        b'a' => stack.expect(&[
+            Want::Lit(b'r'),
+            Want::Lit(b't'),
+            Want::Lit(b' '),
+            Want::Name(Sep::Space),
+            Want::Lit(b'='),
+            Want::Lit(b' '),
+            Want::Shape(Sep::End),
+        ]),
+        b'l' => stack.expect(&[
+            Want::Lit(b'a'),
+            Want::Lit(b'c'),
+            Want::Lit(b'e'),
+            Want::Lit(b' '),
+            Want::Name(Sep::Space),
+            Want::Number(Number::Start, Sep::Space),
+            Want::Number(Number::Start, Sep::Space),
+            Want::Number(Number::Start, Sep::Space),
+            Want::Number(Number::Start, Sep::End),
+        ]),
+        _ => return None,
     }
+    Some(())
 }
 
 /// The second byte of a line that begins with m.
-pub(crate) fn after_m(stack: &mut [u64], depth: usize, b: u8) -> Went
-    requires { depth + 5 ≤ length stack.old }
-    ensures { (w : List ℕ) → Goes result (step (lift Want.AfterM w ∷ stack_of stack.old depth []) b) stack.new (depth + 1) w b }
+fn after_m(stack: &mut Stack<'_>, b: u8) -> Option<()>
+    requires { length stack.old.wants + 5 ≤ stack.old.size }
+    ensures { Goes result (step (after_m ∷ symbols stack.old.wants []) b) stack.old stack.new }
 {
     match b {
-        b'e' => {
-            let d = push(stack, depth, Want::Name(Sep::End));
-            let d = push(stack, d, Want::Name(Sep::Space));
-            let d = push(stack, d, Want::Lit(b' '));
-            let d = push(stack, d, Want::Lit(b't'));
-            Went::On(push(stack, d, Want::Lit(b'e')))
+        b'e' => stack.expect(&[
+            Want::Lit(b'e'),
+            Want::Lit(b't'),
+            Want::Lit(b' '),
+            Want::Name(Sep::Space),
+            Want::Name(Sep::End),
+        ]),
+        b'o' => stack.expect(&[
+            Want::Lit(b'd'),
+            Want::Lit(b'e'),
+            Want::Lit(b'l'),
+            Want::Lit(b' '),
+            Want::Name(Sep::End),
+        ]),
+        _ => return None,
+    }
+    Some(())
+}
+
+/// The byte behind a whole word where a shape is expected; that shape is off the stack.
+fn behind_word(stack: &mut Stack<'_>, kind: Kind, c: Sep, b: u8) -> Option<()>
+    requires { length stack.old.wants + 6 ≤ stack.old.size }
+    ensures { Goes result (behind kind c b (symbols stack.old.wants [])) stack.old stack.new }
+{
+    let number = Want::Number(Number::Start, Sep::Space);
+    let last = Want::Number(Number::Start, c);
+    let end = Want::Lit(u8::from(c));
+    match (kind, b) {
+        (Kind::HalfWord, b' ') => stack.expect(&[number, number, number, last]),
+        (Kind::BoxWord, b' ') => stack.expect(&[number, number, number, number, number, last]),
+        (Kind::TwoWord, b'(') => stack.expect(&[
+            Want::Shape(Sep::Comma),
+            Want::Lit(b' '),
+            Want::Shape(Sep::Close),
+            end,
+        ]),
+        (Kind::MoveWord, b' ') => stack.expect(&[
+            number,
+            number,
+            number,
+            Want::Lit(b'('),
+            Want::Shape(Sep::Close),
+            end,
+        ]),
+        (Kind::OneWord, b'(') => stack.expect(&[Want::Shape(Sep::Close), end]),
+        (Kind::NameWord, _) if b == u8::from(c) => {}
+        _ => return None,
+    }
+    Some(())
+}
+
+/// The next byte of a number; that number is off the stack.
+fn in_number(stack: &mut Stack<'_>, number: Number, c: Sep, b: u8) -> Option<()>
+    requires { length stack.old.wants < stack.old.size }
+    ensures { Goes result (step (symbols (Want.Number number c ∷ stack.old.wants) []) b) stack.old stack.new }
+{
+    match (number, b) {
+        (Number::Start, b'-') => stack.push(Want::Number(Number::Minus, c)),
+        (Number::Start, b'0') => stack.push(Want::Lit(u8::from(c))),
+        (Number::Start | Number::Minus, b'1'..=b'9') | (Number::Digits, b'0'..=b'9') => {
+            stack.push(Want::Number(Number::Digits, c))
         }
-        b'o' => {
-            let d = push(stack, depth, Want::Name(Sep::End));
-            let d = push(stack, d, Want::Lit(b' '));
-            let d = push(stack, d, Want::Lit(b'l'));
-            let d = push(stack, d, Want::Lit(b'e'));
-            Went::On(push(stack, d, Want::Lit(b'd')))
-        }
-        _ => Went::Stuck,
+        (Number::Digits, _) if b == u8::from(c) => {}
+        _ => return None,
+    }
+    Some(())
+}
+
+/// Whether a word is expected first, and the byte goes on with it; `word` is what is there of it.
+fn in_word(stack: &Stack<'_>, word: &Word<'_>, b: u8) -> bool
+    ensures { result ≡ (takes_word stack.now.wants && is_word (word.now ++ b ∷ [])) }
+{
+    match stack.top() {
+        Some(Want::Name(_) | Want::Shape(_)) => word.goes_on(b),
+        _ => false,
     }
 }
 
-/// The byte behind a whole word, where a shape is expected; `depth` is without that shape.
-pub(crate) fn behind_word(stack: &mut [u64], depth: usize, kind: Kind, c: Sep, b: u8) -> Went
-    requires { depth + 6 ≤ length stack.old }
-    ensures { (w : List ℕ) → Goes result (behind kind c b (stack_of stack.old depth [])) stack.new (depth + 1) w b }
+/// The next byte, where it goes on with no word; `word` is what there is of a word, and is empty where none is read.
+fn advance(stack: &mut Stack<'_>, word: &Word<'_>, b: u8) -> Option<()>
+    requires room { length stack.old.wants + 8 ≤ stack.old.size }
+    requires ends { (takes_word stack.old.wants && is_word (word.now ++ b ∷ [])) ≡ false }
+    ensures { Goes result (step (symbols stack.old.wants word.now) b) stack.old stack.new }
 {
-    match kind {
-        Kind::HalfWord => {
-            if b != b' ' {
-                return Went::Stuck;
-            }
-            let d = push(stack, depth, Want::Num(c));
-            let d = push(stack, d, Want::Num(Sep::Space));
-            let d = push(stack, d, Want::Num(Sep::Space));
-            Went::On(push(stack, d, Want::Num(Sep::Space)))
-        }
-        Kind::BoxWord => {
-            if b != b' ' {
-                return Went::Stuck;
-            }
-            let d = push(stack, depth, Want::Num(c));
-            let d = push(stack, d, Want::Num(Sep::Space));
-            let d = push(stack, d, Want::Num(Sep::Space));
-            let d = push(stack, d, Want::Num(Sep::Space));
-            let d = push(stack, d, Want::Num(Sep::Space));
-            Went::On(push(stack, d, Want::Num(Sep::Space)))
-        }
-        Kind::TwoWord => {
-            if b != b'(' {
-                return Went::Stuck;
-            }
-            let d = push(stack, depth, Want::Lit(sep_byte(c)));
-            let d = push(stack, d, Want::Shape(Sep::Close));
-            let d = push(stack, d, Want::Lit(b' '));
-            Went::On(push(stack, d, Want::Shape(Sep::Comma)))
-        }
-        Kind::MoveWord => {
-            if b != b' ' {
-                return Went::Stuck;
-            }
-            let d = push(stack, depth, Want::Lit(sep_byte(c)));
-            let d = push(stack, d, Want::Shape(Sep::Close));
-            let d = push(stack, d, Want::Lit(b'('));
-            let d = push(stack, d, Want::Num(Sep::Space));
-            let d = push(stack, d, Want::Num(Sep::Space));
-            Went::On(push(stack, d, Want::Num(Sep::Space)))
-        }
-        Kind::OneWord => {
-            if b != b'(' {
-                return Went::Stuck;
-            }
-            let d = push(stack, depth, Want::Lit(sep_byte(c)));
-            Went::On(push(stack, d, Want::Shape(Sep::Close)))
-        }
-        Kind::NameWord => {
-            if b == sep_byte(c) {
-                Went::On(depth)
-            } else {
-                Went::Stuck
-            }
-        }
-        Kind::NoWord => Went::Stuck,
-    }
-}
-
-/// The next byte of a number; `depth` is with that number.
-pub(crate) fn in_number(stack: &mut [u64], depth: usize, want: Want, b: u8) -> Went
-    requires depth { (0 < depth) × (depth ≤ length stack.old) }
-    requires number { Number want }
-    requires on { stack_of stack.old depth [] ≡ lift want [] ∷ stack_of stack.old (depth - 1) [] }
-    ensures { (w : List ℕ) → Goes result (step (lift want w ∷ stack_of stack.old (depth - 1) []) b) stack.new depth w b }
-{
-    match want {
-        Want::Num(c) => match b {
-            b'-' => Went::On(push(stack, depth - 1, Want::Minus(c))),
-            b'0' => Went::On(push(stack, depth - 1, Want::Lit(sep_byte(c)))),
-            b'1'..=b'9' => Went::On(push(stack, depth - 1, Want::Digits(c))),
-            _ => Went::Stuck,
-        },
-        Want::Minus(c) => match b {
-            b'1'..=b'9' => Went::On(push(stack, depth - 1, Want::Digits(c))),
-            _ => Went::Stuck,
-        },
-        Want::Digits(c) => match b {
-            b'0'..=b'9' => Went::On(depth),
-            _ if b == sep_byte(c) => Went::On(depth - 1),
-            _ => Went::Stuck,
-        },
-        Want::Lit(_) | Want::Name(_) | Want::Shape(_) | Want::AfterP | Want::AfterM =>
-            unreachable!(),
-    }
-}
-
-/// The next byte; `word` is what there is of a word, and is empty where none is read.
-pub(crate) fn advance(stack: &mut [u64], depth: usize, word: &[u8], b: u8) -> Went
-    requires room { depth + 8 ≤ length stack.old }
-    requires good { Good word.now }
-    ensures { Goes result (step (stack_of stack.old depth word.now) b) stack.new depth word.now b }
-{
-    if depth == 0 {
+    let Some(want) = stack.top() else {
         return at_line(stack, b);
-    }
-    let want = top(stack, depth);
+    };
+    stack.pop();
     match want {
-        Want::Lit(d) => {
-            if b == d {
-                Went::On(depth - 1)
-            } else {
-                Went::Stuck
-            }
-        }
-        Want::Num(_) | Want::Minus(_) | Want::Digits(_) => in_number(stack, depth, want, b),
-        Want::AfterP => after_p(stack, depth - 1, b),
-        Want::AfterM => after_m(stack, depth - 1, b),
-        Want::Name(c) => {
-            if goes_on(word, b) {
-                return Went::Word;
-            }
-            if ends_name(word, c, b) {
-                Went::On(depth - 1)
-            } else {
-                Went::Stuck
-            }
-        }
-        Want::Shape(c) => {
-            if goes_on(word, b) {
-                return Went::Word;
-            }
-            behind_word(stack, depth - 1, word_kind(word), c, b)
-        }
+        Want::Lit(d) => (b == d).then_some(()),
+        Want::Number(number, c) => in_number(stack, number, c, b),
+        Want::Name(c) => word.ends_name(c, b).then_some(()),
+        Want::Shape(c) => behind_word(stack, word.kind(), c, b),
+        Want::AfterP => after_p(stack, b),
+        Want::AfterM => after_m(stack, b),
     }
 }
 
 /// Whether the bytes are a text, and if not, the first byte at which no text goes on so.
-pub(crate) fn read_text(text: &[u8], stack: &mut [u64]) -> Result<(), usize>
-    requires { 2 * length text.now + 15 ≤ length stack.old }
+pub(crate) fn read_text(text: &[u8], words: &mut [u64]) -> Result<(), usize>
+    requires { 2 * length text.now + 15 ≤ length words.old }
     ensures { Says result text.now }
 {
-    let mut depth = 0;
+    let mut stack = Stack::new(words);
     let mut start = 0;
-    for i in 0..text.len() {
-        match advance(stack, depth, &text[start..i], text[i]) {
-            Went::Stuck => return Err(i),
-            Went::On(d) => {
-                depth = d;
-                start = i + 1;
-            }
-            Went::Word => {}
+    for (i, b) in text.iter().enumerate() {
+        let word = Word::new(&text[start..i]);
+        if in_word(&stack, &word, *b) {
+            continue;
         }
+        advance(&mut stack, &word, *b).ok_or(i)?;
+        start = i + 1;
     }
-    if depth == 0 { Ok(()) } else { Err(text.len()) }
+    if stack.is_empty() {
+        Ok(())
+    } else {
+        Err(text.len())
+    }
 }

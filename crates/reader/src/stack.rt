@@ -1,83 +1,120 @@
-//! The stack of what is still expected, in lent words: the last of the first `depth` words is its top.
+//! The stack of what is still expected, in lent words.
 
-ghost use Rattle.std.specs.Prelude.{◌≡◌, ℕ, ◌+◌, ◌-◌, ◌<◌, ◌≤◌, List, [], ◌∷◌, length};
-ghost use Rattle.reader.specs.Stack.{sep_of, want_of, lift, stack_of};
+ghost use Rattle.std.specs.Prelude.{◌≡◌, ◌+◌, ◌<◌, ◌≤◌, ◌↔◌, [], ◌∷◌, ◌++◌, length, drop, slice_get, IsTrue};
 
-use super::types::Want;
+use super::types::{Number, Want};
 use grammar::types::Sep;
+use std::marker::Model;
 
-pub(crate) fn sep_code(c: Sep) -> u64
-    ensures small { result < 4 }
-    ensures is { sep_of result ≡ c }
-{
-    match c {
-        Sep::Space => 0,
-        Sep::Comma => 1,
-        Sep::Close => 2,
-        Sep::End => 3,
+// The library has no heap, so what is expected lies in lent words, each its number times 256 and a byte.
+impl From<Want> for u64 {
+    ghost use Rattle.reader.specs.Stack.{want_of};
+
+    ghost from_gives = { λ want word. want_of word ≡ want };
+
+    fn from(want: Want) -> u64 {
+        let (tag, byte) = match want {
+            Want::Lit(b) => (0, b),
+            Want::Number(Number::Start, c) => (1, u8::from(c)),
+            Want::Number(Number::Minus, c) => (2, u8::from(c)),
+            Want::Number(Number::Digits, c) => (3, u8::from(c)),
+            Want::Name(c) => (4, u8::from(c)),
+            Want::Shape(c) => (5, u8::from(c)),
+            Want::AfterP => (6, 0),
+            Want::AfterM => (7, 0),
+        };
+        256 * tag + u64::from(byte)
     }
 }
 
-pub(crate) fn sep_at(i: u64) -> Sep
-    ensures { result ≡ sep_of i }
-{
-    match i {
-        0 => Sep::Space,
-        1 => Sep::Comma,
-        2 => Sep::Close,
-        _ => Sep::End,
+impl From<u64> for Want {
+    ghost use Rattle.reader.specs.Stack.{want_of};
+
+    ghost from_gives = { λ word want. want ≡ want_of word };
+
+    fn from(word: u64) -> Want {
+        let byte = (word % 256) as u8;
+        let c = Sep::try_from(byte).unwrap_or(Sep::End);
+        match word / 256 {
+            0 => Want::Lit(byte),
+            1 => Want::Number(Number::Start, c),
+            2 => Want::Number(Number::Minus, c),
+            3 => Want::Number(Number::Digits, c),
+            4 => Want::Name(c),
+            5 => Want::Shape(c),
+            6 => Want::AfterP,
+            _ => Want::AfterM,
+        }
     }
 }
 
-pub(crate) fn encode(want: Want) -> u64
-    ensures { want_of result ≡ want }
-{
-    match want {
-        Want::Lit(b) => u64::from(b),
-        Want::Num(c) => 256 + sep_code(c),
-        Want::Minus(c) => 260 + sep_code(c),
-        Want::Digits(c) => 264 + sep_code(c),
-        Want::Name(c) => 268 + sep_code(c),
-        Want::Shape(c) => 272 + sep_code(c),
-        Want::AfterP => 276,
-        Want::AfterM => 277,
-    }
+/// What is still expected: the last of the first `depth` words is what comes first.
+// The library has no heap, so the words are lent, and the depth stands beside them.
+#[derive(Drop)]
+pub(crate) struct Stack<'s> {
+    words: &'s mut [u64],
+    depth: usize,
 }
 
-pub(crate) fn decode(x: u64) -> Want
-    ensures { result ≡ want_of x }
-{
-    if x < 256 {
-        return Want::Lit(x as u8);
-    }
-    if x == 276 {
-        return Want::AfterP;
-    }
-    if x == 277 {
-        return Want::AfterM;
-    }
-    let c = sep_at((x - 256) % 4);
-    match (x - 256) / 4 {
-        0 => Want::Num(c),
-        1 => Want::Minus(c),
-        2 => Want::Digits(c),
-        3 => Want::Name(c),
-        _ => Want::Shape(c),
-    }
+impl<'s> Model for Stack<'s> {
+    ghost use Rattle.std.specs.Prelude.{◌≤◌, length};
+    ghost use Rattle.reader.specs.Stack.{Pile, pile_of};
+
+    ghost Value = { Pile };
+
+    ghost view = { λ s. pile_of s.depth s.words.now };
+
+    ghost invariant = { λ s. s.depth ≤ length s.words.now };
 }
 
-pub(crate) fn push(stack: &mut [u64], depth: usize, want: Want) -> usize
-    requires { depth < length stack.old }
-    ensures more { result ≡ depth + 1 }
-    ensures pushed { (w : List ℕ) → stack_of stack.new result w ≡ lift want w ∷ stack_of stack.old depth [] }
-{
-    stack[depth] = encode(want);
-    depth + 1
-}
+impl<'s> Stack<'s> {
+    /// Nothing is expected.
+    pub(crate) fn new(words: &'s mut [u64]) -> Self
+        ensures { result ≡ record { wants = []; size = length words.old } }
+    {
+        Stack { words, depth: 0 }
+    }
 
-pub(crate) fn top(stack: &[u64], depth: usize) -> Want
-    requires { (0 < depth) × (depth ≤ length stack.now) }
-    ensures { (w : List ℕ) → stack_of stack.now depth w ≡ lift result w ∷ stack_of stack.now (depth - 1) [] }
-{
-    decode(stack[depth - 1])
+    /// Whether nothing is expected.
+    pub(crate) fn is_empty(&self) -> bool
+        ensures { IsTrue result ↔ (self.now.wants ≡ []) }
+    {
+        self.depth == 0
+    }
+
+    /// What comes first.
+    pub(crate) fn top(&self) -> Option<Want>
+        ensures { result ≡ slice_get self.now.wants 0 }
+    {
+        let last = self.depth.checked_sub(1)?;
+        Some(Want::from(self.words[last]))
+    }
+
+    /// Takes off what comes first.
+    pub(crate) fn pop(&mut self)
+        requires { 0 < length self.old.wants }
+        ensures { self.new ≡ record self.old { wants = drop 1 self.old.wants } }
+    {
+        self.depth -= 1;
+    }
+
+    /// Expects this before all else.
+    #[tactic(auto, using(crate::proofs::Stacks::room_left, crate::proofs::Stacks::room_used, crate::proofs::Stacks::view_pushed))]
+    pub(crate) fn push(&mut self, want: Want)
+        requires { length self.old.wants < self.old.size }
+        ensures { self.new ≡ record self.old { wants = want ∷ self.old.wants } }
+    {
+        self.words[self.depth] = u64::from(want);
+        self.depth += 1;
+    }
+
+    /// Expects these, one after the other, before all else.
+    pub(crate) fn expect(&mut self, wants: &[Want])
+        requires { length wants.now + length self.old.wants ≤ self.old.size }
+        ensures { self.new ≡ record self.old { wants = wants.now ++ self.old.wants } }
+    {
+        for want in wants.iter().rev() {
+            self.push(*want);
+        }
+    }
 }

@@ -2,25 +2,26 @@
 
 use grammar::types::Sep;
 
+/// How far a number has come.
+#[derive(Clone, Copy, PartialEq, Eq, Debug)]
+pub enum Number {
+    /// Nothing of it is there.
+    Start,
+    /// Its minus is there.
+    Minus,
+    /// A digit is there.
+    Digits,
+}
+
 /// What a text must go on with.
-#[derive(Clone, Copy)]
+#[derive(Clone, Copy, PartialEq, Eq, Debug)]
 pub enum Want {
     Lit(u8),
-    Num(Sep),
-    Minus(Sep),
-    Digits(Sep),
+    Number(Number, Sep),
     Name(Sep),
     Shape(Sep),
     AfterP,
     AfterM,
-}
-
-/// What a byte did: it cannot stand here, the stack is now so deep, or the word goes on.
-#[derive(Clone, Copy)]
-pub enum Went {
-    Stuck,
-    On(usize),
-    Word,
 }
 
 /// The words that are lent for reading a text: for the work, for the steps of its parts, and for its questions.

@@ -1,49 +1,17 @@
-use Rattle.std.proofs.Common.{◌≡◌, ℕ, ◌+◌, ◌-◌, List, [], sym, ap, ◌∙◌, subst₂, arith}
-use mathlib.Core.Option.{Option}
-use Rattle.grammar.specs.Machine.{Sym, step, behind}
-use Rattle.reader.specs.Stack.{stack_of, Goes}
+use Rattle.std.proofs.Common.{[], ◌∙◌, subst₂, rules}
+use Rattle.grammar.specs.Machine.{behind}
 use Rattle.grammar.specs.declared.types.Kind.{Kind}
-use Rattle.reader.proofs.Words.{name_ends, name_stuck, word_goes}
+use Rattle.reader.specs.Stack.{Pile, symbols, Goes}
+use Rattle.reader.proofs.Words.{name_next, shape_next}
 use Rattle.reader.proofs.machine.advance.Goals as goal
 
-pub returns-then-ends_name : goal.returns-then-ends_name
-returns-then-ends_name c =
-    let w = c.args.word.now in (
-      ap (λ (s : List Sym). step s c.args.b) (c.in-Name.ensures w)
-          ∙ name_ends c.in-Name.c w c.args.b (stack_of c.args.stack.now (c.args.depth - 1) []) (sym c.if-goes_on.ensures) (sym c.if-ends_name.ensures),
-      omega arith,
-    )
+pub returns-in-Name : goal.returns-in-Name
+returns-in-Name c =
+    let e = name_next c.args.stack.now.wants c.in-Some.want c.in-Name.c c.args.word.now c.args.b c.in-Some.ensures c.requires.ends c.in-Name.is in
+    (rw (c.then_some-in-Name.ensures, c.ends_name.ensures, c.pop.ensures) e, search rules)
 
-pub returns-else-ends_name : goal.returns-else-ends_name
-returns-else-ends_name c =
-    let w = c.args.word.now in
-    ap (λ (s : List Sym). step s c.args.b) (c.in-Name.ensures w)
-    ∙ name_stuck c.in-Name.c w c.args.b (stack_of c.args.stack.now (c.args.depth - 1) []) (sym c.if-goes_on.ensures) (sym c.if-ends_name.ensures)
-
-pub returns-else-goes_on-2 : goal.returns-else-goes_on-2
-returns-else-goes_on-2 c =
-    let w = c.args.word.now in
-    let b = c.args.b in
-    let rest = stack_of c.args.stack.now (c.args.depth - 1) [] in
-    let d : c.args.depth - 1 + 1 ≡ c.args.depth = omega arith in
-    let e =
-    ap (λ (s : List Sym). step s b) (c.in-Shape.ensures w)
-    ∙ word_goes c.in-Shape.c w b rest (sym c.if-goes_on-2.ensures)
-    ∙ ap (λ (k : Kind). behind k c.in-Shape.c b rest) (sym c.word_kind.ensures) in
-    subst₂ (λ (o : Option (List Sym)) (n : ℕ). Goes c.behind_word.result o c.behind_word.new.stack n w b) (sym e) d (c.behind_word.ensures w)
-
-pub returns-in-AfterP : goal.returns-in-AfterP
-returns-in-AfterP c =
-    let w = c.args.word.now in
-    let b = c.args.b in
-    let d : c.args.depth - 1 + 1 ≡ c.args.depth = omega arith in
-    let e = ap (λ (s : List Sym). step s b) (c.in-AfterP.ensures w) in
-    subst₂ (λ (o : Option (List Sym)) (n : ℕ). Goes c.after_p.result o c.after_p.new.stack n w b) (sym e) d (c.after_p.ensures w)
-
-pub returns-in-AfterM : goal.returns-in-AfterM
-returns-in-AfterM c =
-    let w = c.args.word.now in
-    let b = c.args.b in
-    let d : c.args.depth - 1 + 1 ≡ c.args.depth = omega arith in
-    let e = ap (λ (s : List Sym). step s b) (c.in-AfterM.ensures w) in
-    subst₂ (λ (o : Option (List Sym)) (n : ℕ). Goes c.after_m.result o c.after_m.new.stack n w b) (sym e) d (c.after_m.ensures w)
+pub returns-in-Shape : goal.returns-in-Shape
+returns-in-Shape c =
+    let e = shape_next c.args.stack.now.wants c.in-Some.want c.in-Shape.c c.args.word.now c.args.b c.in-Some.ensures c.requires.ends c.in-Shape.is in
+    let k = subst₂ (λ (k : Kind) (p : Pile). Goes c.behind_word.result (behind k c.in-Shape.c c.args.b (symbols p.wants [])) p c.behind_word.new.stack) c.kind.ensures c.pop.ensures c.behind_word.ensures in
+    (e ∙ k.0, k.1)

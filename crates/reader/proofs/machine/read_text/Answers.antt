@@ -1,54 +1,46 @@
-use Rattle.std.proofs.Common.{◌≡◌, ℕ, ◌+◌, ◌*◌, ◌≤◌, [], length, take, sym, subst₂, arith}
-use mathlib.Core.Option.{some}
-use Rattle.grammar.specs.Machine.{run, Good}
-use Rattle.reader.specs.Stack.{stack_of}
-use Rattle.reader.specs.Reading.{between}
-use Rattle.reader.proofs.Turn.{turn_on, turn_depth, turn_word, turn_stuck, good_none, good_word, end_whole, end_bad}
+use Rattle.std.proofs.Common.{◌≡◌, Some, ◌+◌, ◌∙◌, sym, refl, arith, ap, [], false}
+use Rattle.std.specs.Option.{option_map}
+use Rattle.std.proofs.lemmas.Bool.{both_ways, and_parts}
+use Rattle.std.proofs.lemmas.Result.{err_from_is_err_and}
+use Rattle.reader.specs.Stack.{symbols, takes_word}
+use Rattle.reader.proofs.Turn.{told_none, turn_on, turn_depth, turn_word, turn_stuck, good_none, good_word, end_whole, end_bad}
 use Rattle.reader.proofs.machine.read_text.Goals as goal
-use Rattle.reader.proofs.machine.read_text.Goals.{in-On, in-Word}
 
-pub returns-in-Stuck : goal.returns-in-Stuck
-returns-in-Stuck c =
-    turn_stuck c.args.text.now c.loop-i.stack c.advance.new.stack c.loop-i.i c.loop-i.start c.loop-i.depth c.loop-i-test.true
-    c.loop-i.invariant.0 c.in-Stuck.ensures
+pub loop-i-preserved-then-in_word : goal.loop-i-preserved-then-in_word
+loop-i-preserved-then-in_word c =
+    let bs = c.args.text.now in
+    let inv = c.loop-i.invariant in
+    let e = rw c.new-word.ensures at (sym c.in_word.ensures ∙ c.if-in_word.true) in (
+      turn_word bs c.loop-i.stack.wants c.loop-i.i c.loop-i.start c.loop-i-test.true inv.0 inv.2 e,
+      good_word c.loop-i.start c.loop-i.i bs inv.2 c.loop-i-test.true (and_parts (takes_word c.loop-i.stack.wants) _ e).1,
+      omega arith,
+      inv.3,
+      inv.4,
+    )
+
+pub returns-in_err-ok_or : goal.returns-in_err-ok_or
+returns-in_err-ok_or c =
+    let p = err_from_is_err_and c.from_residual.result c.from_residual.ensures.1 in
+    let k = told_none c.advance.result c.loop-i.i c.in_err-ok_or.field-0.0 (sym c.ok_or.ensures.value ∙ c.in_err-ok_or.was) in
+    let a = rw c.new-word.ensures at c.advance.ensures.0 in
+    let e = turn_stuck c.args.text.now c.loop-i.stack.wants c.loop-i.i c.loop-i.start c.loop-i-test.true c.loop-i.invariant.0 (a ∙ ap (option_map _) k.0) in
+    rw (p.1, p.2, k.1) e
 
 pub loop-i-preserved : goal.loop-i-preserved
 loop-i-preserved c =
     let bs = c.args.text.now in
-    let st = c.loop-i.stack in
-    let st' = c.advance.new.stack in
-    let i = c.loop-i.i in
-    let s = c.loop-i.start in
-    let depth = c.loop-i.depth in
-    let P : ℕ → ℕ → Type 0 =
-    λ n a.
-    (run (some []) (take (i + 1) bs) ≡ some (stack_of st' n (between a (i + 1) bs)))
-    × Good (between a (i + 1) bs)
-    × (a ≤ i + 1)
-    × (n ≤ 2 * a + 9)
-    × (n ≤ length st') in
-    elim c.match-advance.branch [
-      | in-On w ↦
-          let k = w.in-On.ensures in
-          let e = k.0 in
-          let m = k.1 in
-          subst₂ P (sym w.depth-is) (sym w.start-is) (
-            turn_on bs st st' i s depth c.loop-i-test.true c.loop-i.invariant.0 w.in-On.d e,
-            good_none (i + 1) bs,
-            omega arith,
-            turn_depth bs st st' i s depth c.loop-i-test.true c.loop-i.invariant.0 w.in-On.d c.loop-i.invariant.2 c.loop-i.invariant.3 e,
-            omega (arith, c.advance.auto.stack),
-          )
-      | in-Word w ↦
-          let k = w.in-Word.ensures in
-          let e = k.0 in
-          let g = k.1 in
-          subst₂ P (sym w.depth-is) (sym w.start-is)
-          (turn_word bs st st' i s depth c.loop-i-test.true c.loop-i.invariant.0 c.loop-i.invariant.2 e, good_word s i bs c.loop-i.invariant.2 c.loop-i-test.true g, omega arith, omega arith, omega (arith, c.advance.auto.stack))
-    ]
+    let inv = c.loop-i.invariant in
+    let k : c.advance.result ≡ Some (tt {0}) = grind arith in
+    let e = rw c.new-word.ensures at c.advance.ensures.0 ∙ ap (option_map (λ _. symbols c.advance.new.stack.wants [])) k in (
+      turn_on bs c.loop-i.stack.wants c.loop-i.i c.loop-i.start c.loop-i-test.true inv.0 c.advance.new.stack.wants e,
+      good_none (c.loop-i.i + 1) bs,
+      omega arith,
+      turn_depth bs c.loop-i.stack.wants c.loop-i.i c.loop-i.start c.loop-i-test.true inv.0 c.advance.new.stack.wants inv.2 inv.3 e,
+      omega arith,
+    )
 
-pub returns-then-depth-eq0 : goal.returns-then-depth-eq0
-returns-then-depth-eq0 c = end_whole c.args.text.now c.loop-i.stack _ c.loop-i.i c.loop-i.depth c.loop-i-test.false c.loop-i.invariant.0 c.if-depth-eq0.true
+pub returns-then-is_empty : goal.returns-then-is_empty
+returns-then-is_empty c = end_whole c.args.text.now _ c.loop-i.stack.wants c.loop-i.i c.loop-i-test.false c.loop-i.invariant.0 (c.if-is_empty.ensures.0 refl)
 
-pub returns-else-depth-eq0 : goal.returns-else-depth-eq0
-returns-else-depth-eq0 c = end_bad c.args.text.now c.loop-i.stack _ c.loop-i.i c.loop-i.depth c.loop-i-test.false c.loop-i.invariant.0 c.if-depth-eq0.false
+pub returns-else-is_empty : goal.returns-else-is_empty
+returns-else-is_empty c = end_bad c.args.text.now _ c.loop-i.stack.wants c.loop-i.i c.loop-i-test.false c.loop-i.invariant.0 (λ e. both_ways false refl (c.if-is_empty.ensures.1 e))

@@ -1,14 +1,13 @@
-use Rattle.std.proofs.Common.{◌≡◌, ◌+◌, ◌*◌, ◌≤◌, [], length, take}
-use mathlib.Core.Option.{some}
+use Rattle.std.proofs.Common.{◌≡◌, ◌+◌, ◌*◌, ◌≤◌, [], length, take, Some}
 use Rattle.grammar.specs.Machine.{run, Good}
-use Rattle.reader.specs.Stack.{stack_of}
-use Rattle.reader.specs.Reading.{between}
+use Rattle.reader.specs.Stack.{symbols}
+use Rattle.std.specs.List.{between}
 use Rattle.reader.proofs.machine.read_text.Given as goal
 
 abbrev pub invariant-loop-i : goal.invariant-loop-i
 invariant-loop-i l =
-    (run (some []) (take l.i l.text) ≡ some (stack_of l.stack l.depth (between l.start l.i l.text)))
+    (run (Some []) (take l.i l.text) ≡ Some (symbols l.stack.wants (between l.start l.i l.text)))
     × Good (between l.start l.i l.text)
     × (l.start ≤ l.i)
-    × (l.depth ≤ 2 * l.start + 9)
-    × (l.depth ≤ length l.stack)
+    × (length l.stack.wants ≤ 2 * l.start + 9)
+    × (2 * length l.text + 15 ≤ l.stack.size)
