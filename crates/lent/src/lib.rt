@@ -37,7 +37,7 @@ impl<'a, T: Copy> LentList<'a, T> {
     pub fn len(&self) -> usize
         ensures { result ≡ length self.now.items }
     {
-        self.used
+        self.as_slice().len()
     }
 
     /// Puts one more at the end.
@@ -51,7 +51,7 @@ impl<'a, T: Copy> LentList<'a, T> {
     }
 
     /// Puts more at the end.
-    pub fn extend(&mut self, items: &[T])
+    pub fn extend_from_slice(&mut self, items: &[T])
         requires { length self.old.items + length items.now ≤ self.old.room }
         ensures items { self.new.items ≡ self.old.items ++ items.now }
         ensures room { self.new.room ≡ self.old.room }

@@ -20,15 +20,12 @@ pub mod types;
 
 use drawing::Drawing;
 use plane::types::Place;
-use reader::types::{Layout, Room};
+use reader::types::{Layout, QUESTION_WORDS, Room};
 use solid::types::Steps;
 use types::{Refused, Reply};
 
 /// How many words are lent for the work: each plane of a part is a step, and so is each joint but one.
 pub const WORK_NEEDED: usize = 400;
-
-/// How many words a question has.
-const QUESTION_WORDS: usize = 6;
 
 /// How many words are lent for the steps of a text of so many bytes, if there can be so many.
 pub fn steps_for(bytes: usize) -> Option<usize>

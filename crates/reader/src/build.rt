@@ -11,7 +11,7 @@ ghost use Rattle.reader.specs.Layout.{Taken, Laid};
 ghost use Rattle.reader.specs.Lines.{PartAt, steps_at, pair_of, PlaceAt, question_at};
 
 use super::tokens::number_of;
-use super::types::Layout;
+use super::types::{Layout, QUESTION_WORDS};
 use super::word_list::{Found, WordList};
 use lent::LentList;
 use plane::types::Plane;
@@ -56,7 +56,7 @@ fn box_words(x0: i64, x1: i64, y0: i64, y1: i64, z0: i64, z1: i64) -> [u64; BOX_
     ]
 }
 
-/// The number that is written; 0 where none is.
+/// The number that is written; 0 where none is, which no text has that is taken.
 fn number(word: &[u8]) -> i64
     ensures { (z : ℤ) → word.now ≡ signed z → Short z number_limit → result ≡ z }
 {
@@ -86,7 +86,8 @@ fn pair_at(pairs: &[u64], i: usize) -> [u64; 2]
     [pairs[2 * i], pairs[2 * i + 1]]
 }
 
-/// The two words that belong to a name, where each of some names has two; zeros where it is none of them.
+/// The two words that belong to a name, where each of some names has two; zeros where it is none of them, which no
+/// text has that is taken.
 fn spot_of(names: &WordList<'_>, spots: &[u64], name: &[u8]) -> [u64; 2]
     requires { 2 * length names.now ≤ length spots.now }
     ensures { result ≡ pair_of names.now spots.now name.now }
@@ -98,7 +99,7 @@ fn spot_of(names: &WordList<'_>, spots: &[u64], name: &[u8]) -> [u64; 2]
 }
 
 /// Lines, as they are laid into words: where the steps of each part begin and how many they are, the steps of all
-/// parts, and the questions.
+/// parts, and the questions. Words are all the memory that is lent, so a part is two of them and a question six.
 #[derive(Drop)]
 struct Lines<'w> {
     spots: LentList<'w, u64>,
@@ -126,7 +127,7 @@ impl<'w> Lines<'w> {
     {
         self.spots.push(self.steps.len() as u64);
         self.spots.push(BOX_STEPS as u64);
-        self.steps.extend(&box_of(line));
+        self.steps.extend_from_slice(&box_of(line));
     }
 
     /// Lays the line of a question about a place, behind parts of some names.
@@ -139,14 +140,15 @@ impl<'w> Lines<'w> {
         ensures others { (self.new.spots ≡ self.old.spots) × (self.new.steps ≡ self.old.steps) }
     {
         let [from, count] = spot_of(names, self.spots.as_slice(), line.at(1));
-        self.asked.extend(&[
+        let question: [u64; QUESTION_WORDS] = [
             from,
             count,
             number(line.at(2)).cast_unsigned(),
             number(line.at(3)).cast_unsigned(),
             number(line.at(4)).cast_unsigned(),
             number(line.at(5)).cast_unsigned(),
-        ]);
+        ];
+        self.asked.extend_from_slice(&question);
     }
 }
 

@@ -35,6 +35,9 @@ pub struct Room<'w> {
     pub asked: &'w mut [u64],
 }
 
+/// How many words a question has: where its part's steps begin and how many they are, then x, y, z and w of its place.
+pub const QUESTION_WORDS: usize = 6;
+
 /// What a text that is taken lies in: the steps of its parts, one part behind the other, and its questions.
 #[derive(Clone, Copy)]
 pub struct Layout<'w> {

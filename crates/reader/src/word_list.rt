@@ -77,7 +77,7 @@ impl<'t> WordList<'t> {
         }
     }
 
-    /// Where a word comes first among them.
+    /// Where a word comes first among them. One after the other: a map would need memory, and names are few.
     pub(crate) fn find(&self, word: &[u8]) -> Option<usize>
         ensures { result ≡ rank self.now word.now }
     {

@@ -29,6 +29,6 @@ returns-clause-asked c p =
     let y = as_word c.at-3.result.now c.number-2.result p.y c.cast_unsigned-2.result (c.at-3.ensures ∙ word 3) n.y c.number-2.ensures c.cast_unsigned-2.ensures in
     let z = as_word c.at-4.result.now c.number-3.result p.z c.cast_unsigned-3.result (c.at-4.ensures ∙ word 4) n.z c.number-3.ensures c.cast_unsigned-3.ensures in
     let w = as_word c.at-5.result.now c.number-4.result p.w c.cast_unsigned-4.result (c.at-5.ensures ∙ word 5) n.w_short c.number-4.ensures c.cast_unsigned-4.ensures in
-    c.extend.ensures.items
+    c.extend_from_slice.ensures.items
     ∙ ap (λ (l : List ℕ). c.args.self.now.asked.items ++ l)
     (six c.spot_of.result (pairs p.name.0) _ _ _ _ (of_z w64 p.x) (of_z w64 p.y) (of_z w64 p.z) (nat_abs p.w) spot x y z (w ∙ ap (of_z w64) n.real))
