@@ -8,8 +8,12 @@ ghost use Rattle.reader.specs.Stack.{symbols, takes_word, Goes};
 
 use super::spelling::Word;
 use super::stack::Stack;
-use super::types::{Number, Want};
+use super::types::Number;
+use super::types::Want::{self, AfterM, AfterP, Lit, Name, Shape};
 use grammar::types::{Kind, Sep};
+
+/// A number that a space ends.
+const NUMBER: Want = Want::Number(Number::Start, Sep::Space);
 
 /// A byte where a line may begin.
 fn at_line(stack: &mut Stack<'_>, b: u8) -> Option<()>
@@ -18,15 +22,15 @@ fn at_line(stack: &mut Stack<'_>, b: u8) -> Option<()>
     ensures { Goes result (step [] b) stack.old stack.new }
 {
     match b {
-        b'p' => stack.push(Want::AfterP),
-        b'm' => stack.push(Want::AfterM),
+        b'p' => stack.push(AfterP),
+        b'm' => stack.push(AfterM),
         b's' => stack.expect(&[
-            Want::Lit(b'a'),
-            Want::Lit(b'm'),
-            Want::Lit(b'e'),
-            Want::Lit(b' '),
-            Want::Name(Sep::Space),
-            Want::Name(Sep::End),
+            Lit(b'a'),
+            Lit(b'm'),
+            Lit(b'e'),
+            Lit(b' '),
+            Name(Sep::Space),
+            Name(Sep::End),
         ]),
         _ => return None,
     }
@@ -40,23 +44,23 @@ fn after_p(stack: &mut Stack<'_>, b: u8) -> Option<()>
 {
     match b {
         b'a' => stack.expect(&[
-            Want::Lit(b'r'),
-            Want::Lit(b't'),
-            Want::Lit(b' '),
-            Want::Name(Sep::Space),
-            Want::Lit(b'='),
-            Want::Lit(b' '),
-            Want::Shape(Sep::End),
+            Lit(b'r'),
+            Lit(b't'),
+            Lit(b' '),
+            Name(Sep::Space),
+            Lit(b'='),
+            Lit(b' '),
+            Shape(Sep::End),
         ]),
         b'l' => stack.expect(&[
-            Want::Lit(b'a'),
-            Want::Lit(b'c'),
-            Want::Lit(b'e'),
-            Want::Lit(b' '),
-            Want::Name(Sep::Space),
-            Want::Number(Number::Start, Sep::Space),
-            Want::Number(Number::Start, Sep::Space),
-            Want::Number(Number::Start, Sep::Space),
+            Lit(b'a'),
+            Lit(b'c'),
+            Lit(b'e'),
+            Lit(b' '),
+            Name(Sep::Space),
+            NUMBER,
+            NUMBER,
+            NUMBER,
             Want::Number(Number::Start, Sep::End),
         ]),
         _ => return None,
@@ -71,19 +75,13 @@ fn after_m(stack: &mut Stack<'_>, b: u8) -> Option<()>
 {
     match b {
         b'e' => stack.expect(&[
-            Want::Lit(b'e'),
-            Want::Lit(b't'),
-            Want::Lit(b' '),
-            Want::Name(Sep::Space),
-            Want::Name(Sep::End),
+            Lit(b'e'),
+            Lit(b't'),
+            Lit(b' '),
+            Name(Sep::Space),
+            Name(Sep::End),
         ]),
-        b'o' => stack.expect(&[
-            Want::Lit(b'd'),
-            Want::Lit(b'e'),
-            Want::Lit(b'l'),
-            Want::Lit(b' '),
-            Want::Name(Sep::End),
-        ]),
+        b'o' => stack.expect(&[Lit(b'd'), Lit(b'e'), Lit(b'l'), Lit(b' '), Name(Sep::End)]),
         _ => return None,
     }
     Some(())
@@ -94,27 +92,26 @@ fn behind_word(stack: &mut Stack<'_>, kind: Kind, c: Sep, b: u8) -> Option<()>
     requires { length stack.old.wants + 6 ≤ stack.old.size }
     ensures { Goes result (behind kind c b (symbols stack.old.wants [])) stack.old stack.new }
 {
-    let number = Want::Number(Number::Start, Sep::Space);
     let last = Want::Number(Number::Start, c);
-    let end = Want::Lit(u8::from(c));
+    let end = Lit(u8::from(c));
     match (kind, b) {
-        (Kind::HalfWord, b' ') => stack.expect(&[number, number, number, last]),
-        (Kind::BoxWord, b' ') => stack.expect(&[number, number, number, number, number, last]),
+        (Kind::HalfWord, b' ') => stack.expect(&[NUMBER, NUMBER, NUMBER, last]),
+        (Kind::BoxWord, b' ') => stack.expect(&[NUMBER, NUMBER, NUMBER, NUMBER, NUMBER, last]),
         (Kind::TwoWord, b'(') => stack.expect(&[
-            Want::Shape(Sep::Comma),
-            Want::Lit(b' '),
-            Want::Shape(Sep::Close),
+            Shape(Sep::Comma),
+            Lit(b' '),
+            Shape(Sep::Close),
             end,
         ]),
         (Kind::MoveWord, b' ') => stack.expect(&[
-            number,
-            number,
-            number,
-            Want::Lit(b'('),
-            Want::Shape(Sep::Close),
+            NUMBER,
+            NUMBER,
+            NUMBER,
+            Lit(b'('),
+            Shape(Sep::Close),
             end,
         ]),
-        (Kind::OneWord, b'(') => stack.expect(&[Want::Shape(Sep::Close), end]),
+        (Kind::OneWord, b'(') => stack.expect(&[Shape(Sep::Close), end]),
         (Kind::NameWord, _) if b == u8::from(c) => {}
         _ => return None,
     }
@@ -128,7 +125,7 @@ fn in_number(stack: &mut Stack<'_>, number: Number, c: Sep, b: u8) -> Option<()>
 {
     match (number, b) {
         (Number::Start, b'-') => stack.push(Want::Number(Number::Minus, c)),
-        (Number::Start, b'0') => stack.push(Want::Lit(u8::from(c))),
+        (Number::Start, b'0') => stack.push(Lit(u8::from(c))),
         (Number::Start | Number::Minus, b'1'..=b'9') | (Number::Digits, b'0'..=b'9') => {
             stack.push(Want::Number(Number::Digits, c))
         }
@@ -143,7 +140,7 @@ fn in_word(stack: &Stack<'_>, word: &Word<'_>, b: u8) -> bool
     ensures { result ≡ (takes_word stack.now.wants && is_word (word.now ++ b ∷ [])) }
 {
     match stack.top() {
-        Some(Want::Name(_) | Want::Shape(_)) => word.goes_on(b),
+        Some(Name(_) | Shape(_)) => word.goes_on(b),
         _ => false,
     }
 }
@@ -159,12 +156,12 @@ fn advance(stack: &mut Stack<'_>, word: &Word<'_>, b: u8) -> Option<()>
     };
     stack.pop();
     match want {
-        Want::Lit(d) => (b == d).then_some(()),
+        Lit(d) => (b == d).then_some(()),
         Want::Number(number, c) => in_number(stack, number, c, b),
-        Want::Name(c) => word.ends_name(c, b).then_some(()),
-        Want::Shape(c) => behind_word(stack, word.kind(), c, b),
-        Want::AfterP => after_p(stack, b),
-        Want::AfterM => after_m(stack, b),
+        Name(c) => word.ends_name(c, b).then_some(()),
+        Shape(c) => behind_word(stack, word.kind(), c, b),
+        AfterP => after_p(stack, b),
+        AfterM => after_m(stack, b),
     }
 }
 
