@@ -1,6 +1,5 @@
 -- The tokens of a text are the code of its lines.
-use Rattle.std.proofs.Common.{◌≡◌, ℕ, zero, suc, ◌+◌, ◌<◌, ◌≤◌, Bool, true, false, not, ◌&&◌, List, [], ◌∷◌, ◌++◌, map, length, get_or, drop, ℤ, codes, sym, refl, ap, ◌∙◌, append_assoc, append-nil, add-one}
-use Rattle.std.proofs.lemmas.List.{drop_more, drop_all}
+use Rattle.std.proofs.Common.{◌≡◌, ℕ, zero, suc, Bool, true, false, not, ◌&&◌, List, [], ◌∷◌, ◌++◌, map, drop, ℤ, codes, refl, ap, ◌∙◌}
 use Rattle.std.proofs.lemmas.Bool.{both_ways, and_parts, cond-true, cond-false}
 use Rattle.grammar.specs.Grammar.{Expr, half, box, two, move, one, called, Line, part, place, same_as, meet, model, on_e, on_l, print, two_word, one_word, signed, all, Name, is_name, is_num, Two, both, either, without, One, mirror, swap, turn}
 use Rattle.grammar.specs.Tokens.{in_tok, tok_at, once_if, toks_from, starts_from, code_e, code_l, code_of, Placed}
@@ -125,30 +124,6 @@ placed_from xs (b ∷ ys) t i e =
 pub placed : (xs ps : List ℕ) → ps ≡ starts_from false 0 xs → Placed xs ps
 placed xs ps e = ap (map (λ p. tok_at (drop p xs))) e ∙ placed_from xs xs false 0 refl
 
--- a turn of the loop that finds them
-pub starts_more : (xs : List ℕ) (t : Bool) (i : ℕ) → i < length xs → starts_from t i (drop i xs) ≡ once_if (not t && in_tok (get_or xs i 0)) i ++ starts_from (in_tok (get_or xs i 0)) (i + 1) (drop (i + 1) xs)
-starts_more xs t i h =
-    ap (starts_from t i) (drop_more xs i 0 h)
-    ∙ ap (λ (n : ℕ). once_if (not t && in_tok (get_or xs i 0)) i ++ starts_from (in_tok (get_or xs i 0)) n (drop (i + 1) xs)) (sym (add-one i))
-
 -- the tokens of a text
 pub text_code : (bs : List ℕ) (ls : List Line) → bs ≡ print ls → (ps : List ℕ) → Placed bs ps → map (λ p. tok_at (drop p bs)) ps ≡ code_of ls
 text_code bs ls e ps h = h ∙ ap (toks_from false) e ∙ toks_print ls
-
-module _ (xs ys all-starts : List ℕ) (t : Bool) (i : ℕ) (h : i < length xs) (inv : ys ++ starts_from t i (drop i xs) ≡ all-starts) where
-  pub start_new : (not t && in_tok (get_or xs i 0)) ≡ true → (ys ++ i ∷ []) ++ starts_from (in_tok (get_or xs i 0)) (i + 1) (drop (i + 1) xs) ≡ all-starts
-  start_new e =
-      append_assoc ys (i ∷ []) _
-      ∙ ap (λ (u : Bool). ys ++ (once_if u i ++ starts_from (in_tok (get_or xs i 0)) (i + 1) (drop (i + 1) xs))) (sym e)
-      ∙ ap (λ (x : List ℕ). ys ++ x) (sym (starts_more xs t i h))
-      ∙ inv
-
-  pub start_none : (not t && in_tok (get_or xs i 0)) ≡ false → ys ++ starts_from (in_tok (get_or xs i 0)) (i + 1) (drop (i + 1) xs) ≡ all-starts
-  start_none e =
-      ap (λ (u : Bool). ys ++ (once_if u i ++ starts_from (in_tok (get_or xs i 0)) (i + 1) (drop (i + 1) xs))) (sym e)
-      ∙ ap (λ (x : List ℕ). ys ++ x) (sym (starts_more xs t i h))
-      ∙ inv
-
--- the end
-pub starts_end : (xs ys : List ℕ) (t : Bool) (i : ℕ) → length xs ≤ i → ys ++ starts_from t i (drop i xs) ≡ starts_from false 0 xs → ys ≡ starts_from false 0 xs
-starts_end xs ys t i h e = sym (append-nil ys) ∙ ap (λ (x : List ℕ). ys ++ starts_from t i x) (sym (drop_all i xs h)) ∙ e

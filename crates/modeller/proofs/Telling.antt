@@ -1,5 +1,5 @@
 -- From what a drawing holds to what is told of it.
-use Rattle.std.proofs.Common.{◌≡◌, ℕ, ◌+◌, ◌*◌, ◌/◌, ◌<◌, ◌≤◌, true, List, [], length, get_or, take, drop, ℤ, Some, None, Ok, sym, refl, ap, ◌∙◌, subst, arith, to_z-of_z, w64, to_z, of_z}
+use Rattle.std.proofs.Common.{◌≡◌, ℕ, ◌+◌, ◌*◌, ◌/◌, ◌<◌, ◌≤◌, true, List, [], length, get_or, take, drop, ℤ, Some, Ok, sym, refl, ap, ◌∙◌, subst, arith, to_z-of_z, w64, to_z, of_z}
 use mathlib.Core.Bool.{Bool-discrete}
 use mathlib.Core.Logic.{∥∥₁_elim}
 use mathlib.Core.HLevel.{hedberg}
@@ -94,14 +94,6 @@ module _ (text : List ℕ) (l : Layout) (d : ∥ Drawn text l ∥₁) where
   asked_count ls e = omega (arith, (drawn_laid ls e).count)
 
   module _ (n work k : ℕ) (f : (ls : List Line) → text ≡ print ls → n ≡ length (questions [] ls)) (m : work_needed ≤ work) where
-    -- behind the last question there is none
-    pub reply_none : n ≤ k → Replied text work k (Ok None)
-    reply_none h = record {
-      few = λ w. absurd (omega arith);
-      none = λ ls _ e _. refl;
-      some = λ ls q _ e b g. absurd (omega (arith, f ls e));
-    }
-
     -- a question about a place
     pub reply_place : (r : Reply) → k < n → ((s : Shape) → Fits s → steps_in l.steps.now l.asked.now k ≡ words s → r ≡ AtPlace (told s (place_in l.asked.now k))) → Replied text work k (Ok (Some r))
     reply_place r h g = record {

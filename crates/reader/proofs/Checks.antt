@@ -1,10 +1,9 @@
 -- The scan of a text's words, turn by turn.
-use Rattle.std.proofs.Common.{◌≡◌, ℕ, ◌+◌, ◌<◌, ◌≤◌, Bool, true, false, cond, leb, List, [], ◌∷◌, ◌++◌, map, length, get_or, drop, filter, Some, None, Ok, Err, sym, refl, ap, ◌∙◌, append_assoc, append-nil}
-use Rattle.std.proofs.lemmas.List.{drop_more, drop_all, map-append}
-use Rattle.std.proofs.lemmas.List.Elements.{All-nil}
-use Rattle.std.proofs.lemmas.Bool.{cond-true, cond-false}
-use Rattle.grammar.specs.Tokens.{tok_at, starts_from}
-use Rattle.grammar.specs.Faults.{Fault, Token, token, Role, scan, looked, word_faults}
+use Rattle.std.proofs.Common.{◌≡◌, ℕ, ◌+◌, ◌<◌, Bool, true, cond, leb, List, [], ◌∷◌, ◌++◌, map, length, get_or, drop, filter, Some, Ok, Err, sym, refl, ap, ◌∙◌, append_assoc, append-nil}
+use Rattle.std.proofs.lemmas.List.{drop_more, map-append}
+use Rattle.std.proofs.lemmas.Bool.{cond-true}
+use Rattle.grammar.specs.Tokens.{tok_at}
+use Rattle.grammar.specs.Faults.{Fault, Token, token, scan, looked, word_faults}
 use Rattle.reader.specs.declared.types.Expect.{Expect}
 use Rattle.reader.specs.declared.types.Expect.TheVariants.{AtLine, AtNewName, AtShape, InBox, AtUsedName, InPlace}
 use Rattle.reader.specs.declared.types.Refusal.{Refusal}
@@ -40,16 +39,6 @@ module _ (bs : List ℕ) (read : ℕ) (names : List ℕ) (e : Expect) (ps : List
   here : rest_of bs read (drop k ps) ≡ cond (whole read word) (word ∷ rest_of bs read (drop (k + 1) ps)) (rest_of bs read (drop (k + 1) ps))
   here = ap (rest_of bs read) (drop_more ps k 0 h)
 
-  -- a word that is not looked at
-  pub turn_skip : whole read word ≡ false → Scanned bs read names e (drop (k + 1) ps)
-  turn_skip f =
-      let r = here ∙ cond-false (whole read word) _ _ f in
-      record {
-        faults = ap (scan (words_at bs names) (expected e)) (sym r) ∙ inv.faults;
-        named = ap (λ (l : List Token). words_at bs names ++ named_in (expected e) l) (sym r) ∙ inv.named;
-        inside = inv.inside;
-      }
-
   seen : whole read word ≡ true → rest_of bs read (drop k ps) ≡ word ∷ rest_of bs read (drop (k + 1) ps)
   seen f = here ∙ cond-true (whole read word) _ _ f
 
@@ -73,42 +62,6 @@ module _ (bs : List ℕ) (read : ℕ) (names : List ℕ) (e : Expect) (ps : List
   turn_wrong r g l =
       let rest = rest_of bs read (drop (k + 1) ps) in
       ((l rest).0, sym inv.faults ∙ ap (scan (words_at bs names) (expected e)) (seen g) ∙ (l rest).1)
-
-  -- a word behind which nothing is looked at
-  pub turn_done : whole read word ≡ true → Looked (Ok None) e (words_at bs names) word →
-      (word_faults read bs ≡ []) × (words_at bs names ≡ named_in [] (looked read bs))
-  turn_done g l =
-      let ns = words_at bs names in
-      let rest = rest_of bs read (drop (k + 1) ps) in (
-        sym inv.faults ∙ ap (scan ns (expected e)) (seen g) ∙ (l rest).0,
-        sym (append-nil ns) ∙ ap (λ (ms : List (List ℕ)). ns ++ ms) (sym (l rest).1) ∙ ap (λ (ts : List Token). ns ++ named_in (expected e) ts) (sym (seen g)) ∙ inv.named,
-      )
-
--- the end
-pub turn_over : (bs : List ℕ) (read : ℕ) (names : List ℕ) (e : Expect) (ps : List ℕ) (k : ℕ) → length ps ≤ k → Scanned bs read names e (drop k ps) →
-    (word_faults read bs ≡ []) × (words_at bs names ≡ named_in [] (looked read bs))
-turn_over bs read names e ps k h inv =
-    let ns = words_at bs names in
-    let r : rest_of bs read (drop k ps) ≡ [] = ap (rest_of bs read) (drop_all k ps h) in (
-      sym inv.faults ∙ ap (scan ns (expected e)) r ∙ scan_none (expected e) ns,
-      sym (append-nil ns) ∙ ap (λ (ms : List (List ℕ)). ns ++ ms) (sym (named_none (expected e))) ∙ ap (λ (ts : List Token). ns ++ named_in (expected e) ts) (sym r) ∙ inv.named,
-    )
-  where
-    scan_none : (rs : List Role) (ms : List (List ℕ)) → scan ms rs [] ≡ []
-    scan_none [] ms = refl
-    scan_none (r ∷ rs) ms = refl
-
-    named_none : (rs : List Role) → named_in rs [] ≡ []
-    named_none [] = refl
-    named_none (r ∷ rs) = refl
-
--- the first turn
-pub turn_first : (bs : List ℕ) (read : ℕ) (ps : List ℕ) → ps ≡ starts_from false 0 bs → Scanned bs read [] AtLine ps
-turn_first bs read ps e = record {
-  faults = ap (λ (l : List ℕ). scan [] [] (rest_of bs read l)) e;
-  named = ap (λ (l : List ℕ). named_in [] (rest_of bs read l)) e;
-  inside = All-nil (λ p. p < length bs);
-}
 
 -- the names after one more
 pub names_put : (bs names : List ℕ) (p : ℕ) → words_at bs (names ++ p ∷ []) ≡ words_at bs names ++ tok_at (drop p bs) ∷ []

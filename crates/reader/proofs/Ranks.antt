@@ -1,8 +1,8 @@
 -- Names one after the other: which comes first.
-use Rattle.std.proofs.Common.{◌≡◌, ℕ, suc, ◌+◌, ◌<◌, ◌≤◌, Bool, true, false, cond, ◌&&◌, ◌||◌, eqb, List, [], ◌∷◌, length, get_or, drop, is_some, Some, None, Decides, Option, sym, refl, ap, ◌∙◌, subst, add-zero, add-suc, suc-add, zero-add, add-one, eq-eqb, arith}
+use Rattle.std.proofs.Common.{◌≡◌, ℕ, suc, ◌+◌, ◌<◌, Bool, true, false, cond, ◌&&◌, ◌||◌, eqb, List, [], ◌∷◌, length, get_or, drop, is_some, Some, None, Decides, Option, sym, refl, ap, ◌∙◌, subst, add-zero, add-suc, suc-add, add-one, eq-eqb, arith}
 use Rattle.std.specs.Cmp.Lexicographic.{pointwise}
 use Rattle.std.specs.Option.{option_map}
-use Rattle.std.proofs.lemmas.List.{drop_more, drop_all, get_or-map, length-map}
+use Rattle.std.proofs.lemmas.List.{drop_more, get_or-map, length-map}
 use Rattle.std.proofs.lemmas.Bool.{cond-true, cond-false, both_ways, and_from}
 use Rattle.std.proofs.lemmas.Bool.Decides.{Decides-eqb}
 use Rattle.std.proofs.lemmas.Slice.Eq.{slice_eq-Decides}
@@ -38,10 +38,6 @@ told_same w k v r e f = ap (λ (x : List ℕ). same x w) (sym f) ∙ same_from w
 abbrev pub skipped : ℕ → Option ℕ → Option ℕ
 skipped i o = option_map (λ k. i + k) o
 
-pub skipped_none : (o : Option ℕ) → o ≡ skipped 0 o
-skipped_none None = refl
-skipped_none (Some k) = ap (λ (n : ℕ). Some n) (rw zero-add)
-
 skipped_more : (i : ℕ) (o : Option ℕ) → skipped i (option_map suc o) ≡ skipped (i + 1) o
 skipped_more i None = refl
 skipped_more i (Some k) = ap (λ (n : ℕ). Some n) (add-suc i k ∙ sym (ap (λ (n : ℕ). n + k) (add-one i) ∙ suc-add i k))
@@ -56,9 +52,6 @@ module _ (ws : List (List ℕ)) (word : List ℕ) (i : ℕ) where
   rank_later h e =
       ap (λ (ns : List (List ℕ)). skipped i (rank ns word)) (drop_more ws i [] h) ∙ ap (skipped i) (cond-false (same word (get_or ws i [])) _ _ e)
       ∙ skipped_more i (rank (drop (i + 1) ws) word)
-
-  pub rank_over : length ws ≤ i → skipped i (rank (drop i ws) word) ≡ None
-  rank_over h = ap (λ (ns : List (List ℕ)). skipped i (rank ns word)) (drop_all i ws h)
 
 -- the word at a number is compared
 pub word_same : (text ps : List ℕ) (ws : List (List ℕ)) (i : ℕ) (v w : List ℕ) (r : Bool) → words_at text ps ≡ ws → i < length ps → v ≡ tok_at (drop (get_or ps i 0) text) →
