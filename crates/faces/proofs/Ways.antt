@@ -10,7 +10,7 @@ use Rattle.plane.specs.Moves.{rolled_plane, rolled_place}
 use Rattle.solid.specs.Shapes.{box, planes, plane}
 use Rattle.solid.specs.Models.{Face}
 use Rattle.solid.specs.Examples.{at}
-use Rattle.faces.specs.declared.types.Block.{Block}
+use Rattle.faces.specs.declared.types.Bounds.{Bounds}
 use Rattle.faces.specs.Blocks.{as_shape, cut, high_face, low_face, rolled_face, rolled_back, block_faces}
 
 -- toward more x and less x, more y and less y, more z and less z
@@ -71,7 +71,7 @@ far south q = neg_ℤ q.y
 far up q = q.z
 far down q = neg_ℤ q.z
 
-abbrev pub top : Block → Way → ℤ
+abbrev pub top : Bounds → Way → ℤ
 top b east = b.x1
 top b west = neg_ℤ b.x0
 top b north = b.y1
@@ -79,7 +79,7 @@ top b south = neg_ℤ b.y0
 top b up = b.z1
 top b down = neg_ℤ b.z0
 
-abbrev pub bot : Block → Way → ℤ
+abbrev pub bot : Bounds → Way → ℤ
 bot b east = b.x0
 bot b west = neg_ℤ b.x1
 bot b north = b.y0
@@ -99,7 +99,7 @@ far-opp south q = neg_neg q.y
 far-opp up q = refl
 far-opp down q = neg_neg q.z
 
-pub bot-top : (b : Block) (e : Way) → bot b e ≡ neg_ℤ (top b (opp e))
+pub bot-top : (b : Bounds) (e : Way) → bot b e ≡ neg_ℤ (top b (opp e))
 bot-top b east = neg_neg b.x0
 bot-top b west = refl
 bot-top b north = neg_neg b.y0
@@ -132,7 +132,7 @@ height-far e d q = ap (λ (h : ℤ). h -ℤ (d *ℤ pos q.w)) (weight-far e q)
 high_neg : (n : ℤ) → neg_ℤ (int_max n (neg_ℤ (pos reach))) ≡ int_min (neg_ℤ n) (pos reach)
 high_neg n = omega (arith, ints, clamps)
 
-pub top-cut : (b : Block) (e : Way) → top (cut b) e ≡ int_min (top b e) (pos reach)
+pub top-cut : (b : Bounds) (e : Way) → top (cut b) e ≡ int_min (top b e) (pos reach)
 unfolding cut
 top-cut b east = refl
 top-cut b west = high_neg b.x0
@@ -142,11 +142,11 @@ top-cut b up = refl
 top-cut b down = high_neg b.z0
 
 -- ---- a block's planes and faces by the ways
-pub planes-ways : (b : Block) → planes (as_shape b) ≡ map (λ e. toward e (top b e)) ways
+pub planes-ways : (b : Bounds) → planes (as_shape b) ≡ map (λ e. toward e (top b e)) ways
 unfolding planes box
 planes-ways b = refl
 
-abbrev pub rim : Block → Way → List Plane
+abbrev pub rim : Bounds → Way → List Plane
 rim b e =
     let f = first e in
     let g = second e in
@@ -156,7 +156,7 @@ rim b e =
 abbrev pub rectangle : ℤ → ℤ → ℤ → ℤ → ℤ → List Place
 rectangle d i j k l = at d i k 1 ∷ at d j k 1 ∷ at d j l 1 ∷ at d i l 1 ∷ []
 
-unfoldable pub face_at : Block → Way → Face
+unfoldable pub face_at : Bounds → Way → Face
 face_at b east = high_face b
 face_at b west = low_face b
 face_at b north = rolled_face (high_face (rolled_back b))
@@ -164,7 +164,7 @@ face_at b south = rolled_face (low_face (rolled_back b))
 face_at b up = rolled_face (rolled_face (high_face (rolled_back (rolled_back b))))
 face_at b down = rolled_face (rolled_face (low_face (rolled_back (rolled_back b))))
 
-pub faces_ways : (b : Block) → block_faces b ≡ map (face_at b) ways
+pub faces_ways : (b : Bounds) → block_faces b ≡ map (face_at b) ways
 unfolding block_faces face_at
 faces_ways b = refl
 
@@ -173,7 +173,7 @@ abbrev pub seen : Way → Place → Place
 seen e q = at (far e q) (far (first e) q) (far (second e) q) q.w
 
 -- what a face is made of
-pub record Made (b : Block) (e : Way) (f : Face) : Type 0 where
+pub record Made (b : Bounds) (e : Way) (f : Face) : Type 0 where
   pub plane : f.plane ≡ toward e (top b e)
   pub edges : f.edges ≡ rim b e
   pub ahead : ℤ
@@ -184,7 +184,7 @@ pub record Made (b : Block) (e : Way) (f : Face) : Type 0 where
 neg_twice : (n : ℤ) → neg_ℤ (n +ℤ n) ≡ neg_ℤ n +ℤ neg_ℤ n
 neg_twice n = omega (arith, ints)
 
-pub made : (b : Block) (e : Way) → Made b e (face_at b e)
+pub made : (b : Bounds) (e : Way) → Made b e (face_at b e)
 unfolding face_at high_face low_face rolled_face rolled_plane rolled_place
 made b east = record { plane = refl; edges = refl; ahead = _; twice = refl; place = refl; corners = refl }
 made b west = record { plane = refl; edges = refl; ahead = _; twice = neg_twice b.x0; place = refl; corners = refl }
