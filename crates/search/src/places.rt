@@ -6,7 +6,7 @@ ghost use Rattle.plane.specs.Limits.{FitsPlane, SmallPlace};
 ghost use Rattle.search.specs.Search.{Off, OffBut, BySides, BySidesOn, Found, lent_words};
 ghost use Rattle.search.specs.Levels.{Level, AllLevel};
 
-use super::levels::search;
+use super::levels::Grid;
 use plane::types::{Place, Plane};
 
 /// A question that is asked of places.
@@ -38,7 +38,8 @@ pub fn find<Q: Question>(
     requires room { lent_words (length planes.now) ≤ length lent.old }
     ensures { Found (Off planes.now) (Q.asked question.now) result }
 {
-    search(question, None, planes, lent, work)
+    let grid = Grid { base: None, planes };
+    grid.search(question, lent, work)
 }
 
 /// A place on the base, and on none of the planes that crosses it, for which the question holds, if there is one.
@@ -57,5 +58,9 @@ pub fn find_on<Q: Question>(
     requires room { lent_words (length planes.now) ≤ length lent.old }
     ensures { Found (OffBut planes.now base) (Q.asked question.now) result }
 {
-    search(question, Some(base), planes, lent, work)
+    let grid = Grid {
+        base: Some(base),
+        planes,
+    };
+    grid.search(question, lent, work)
 }
