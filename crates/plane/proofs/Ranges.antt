@@ -1,6 +1,7 @@
 -- Planes in range: a changed plane is in range where the plane is, and a plane that the code puts together is the one with its numbers.
-use Rattle.std.proofs.Common.{◌≡◌, ℤ, pos, neg_ℤ, ap, ◌∙◌, arith}
+use Rattle.std.proofs.Common.{◌≡◌, Bool, ◌&&◌, int_eq, Decides, ℤ, pos, neg_ℤ, ap, ◌∙◌, arith}
 use Rattle.std.proofs.lemmas.Int.{ints}
+use Rattle.std.proofs.lemmas.Bool.Decides.{Decides-and, Decides-at, Decides-int_eq, Decides-like}
 use Rattle.arith.proofs.Sized.{short_neg}
 use Rattle.plane.specs.declared.types.Plane.{Plane}
 use Rattle.plane.specs.Limits.{FitsPlane}
@@ -13,6 +14,13 @@ made {s} {t} {u} {v} p a b c d =
     ∙ ap (λ (n : ℤ). record { a = p.a; b = n; c = u; d = v }) b
     ∙ ap (λ (n : ℤ). record { a = p.a; b = p.b; c = n; d = v }) c
     ∙ ap (λ (n : ℤ). record { a = p.a; b = p.b; c = p.c; d = n }) d
+
+-- what `==` says of two planes
+pub plane_eq-Decides : (p r : Plane) (b : Bool) → b ≡ (int_eq p.a r.a && (int_eq p.b r.b && (int_eq p.c r.c && int_eq p.d r.d))) → Decides b (p ≡ r)
+plane_eq-Decides p r b e =
+    let c = Decides-and _ _ (Decides-int_eq p.c r.c) (Decides-int_eq p.d r.d) in
+    let d = Decides-and _ _ (Decides-int_eq p.a r.a) (Decides-and _ _ (Decides-int_eq p.b r.b) c) in
+    Decides-at b _ e (Decides-like _ (λ i. made r i.0 i.1.0 i.1.1.0 i.1.1.1) (λ i. let a = ap (λ (m : Plane). m.a) i in (a, (ap (λ (m : Plane). m.b) i, (ap (λ (m : Plane). m.c) i, ap (λ (m : Plane). m.d) i)))) d)
 
 neg_zero : (z : ℤ) → neg_ℤ z ≡ pos 0 → z ≡ pos 0
 neg_zero z e = omega (arith, ints)

@@ -5,74 +5,67 @@ ghost use Rattle.std.specs.Prelude.{◌≡◌};
 ghost use Rattle.plane.specs.Limits.{FitsPlane, FitsShift, IfFits};
 ghost use Rattle.plane.specs.Moves.{Together, moved_plane, moved_place, mirrored_plane, mirrored_place, swapped_plane, swapped_place, rolled_plane, rolled_place};
 
-use super::sides::{checked, weighed};
 use super::types::{Plane, Shift};
 
-/// The plane moved by a step, in range or not.
-fn shifted(p: Plane, t: Shift) -> Plane
-    requires plane { FitsPlane p }
-    requires shift { FitsShift t }
-    ensures { result ≡ moved_plane t p }
-{
-    Plane {
-        a: p.a,
-        b: p.b,
-        c: p.c,
-        d: p.d + weighed(p, t.x, t.y, t.z),
+impl Plane {
+    /// The plane moved by a step, in range or not.
+    fn shifted(self, t: Shift) -> Plane
+        requires plane { FitsPlane self }
+        requires shift { FitsShift t }
+        ensures { result ≡ moved_plane t self }
+    {
+        Plane {
+            d: self.d + self.weighed(t.x, t.y, t.z),
+            ..self
+        }
     }
-}
 
-/// The plane moved by a step, if it is then in range.
-pub fn moved(p: Plane, t: Shift) -> Option<Plane>
-    requires plane { FitsPlane p }
-    requires shift { FitsShift t }
-    ensures value { IfFits (moved_plane t p) result }
-    ensures heights { Together (moved_plane t) (moved_place t) }
-{
-    checked(shifted(p, t))
-}
-
-/// The plane mirrored at x = 0.
-pub fn mirrored(p: Plane) -> Plane
-    requires { FitsPlane p }
-    ensures value { result ≡ mirrored_plane p }
-    ensures fits { FitsPlane result }
-    ensures heights { Together mirrored_plane mirrored_place }
-{
-    Plane {
-        a: -p.a,
-        b: p.b,
-        c: p.c,
-        d: p.d,
+    /// The plane moved by a step, if it is then in range.
+    pub fn moved(self, t: Shift) -> Option<Plane>
+        requires plane { FitsPlane self }
+        requires shift { FitsShift t }
+        ensures value { IfFits (moved_plane t self) result }
+        ensures heights { Together (moved_plane t) (moved_place t) }
+    {
+        self.shifted(t).checked()
     }
-}
 
-/// The plane with x and y exchanged.
-pub fn swapped(p: Plane) -> Plane
-    requires { FitsPlane p }
-    ensures value { result ≡ swapped_plane p }
-    ensures fits { FitsPlane result }
-    ensures heights { Together swapped_plane swapped_place }
-{
-    Plane {
-        a: p.b,
-        b: p.a,
-        c: p.c,
-        d: p.d,
+    /// The plane mirrored at x = 0.
+    pub fn mirrored(self) -> Plane
+        requires { FitsPlane self }
+        ensures value { result ≡ mirrored_plane self }
+        ensures fits { FitsPlane result }
+        ensures heights { Together mirrored_plane mirrored_place }
+    {
+        Plane { a: -self.a, ..self }
     }
-}
 
-/// The plane turned from x to y to z to x.
-pub fn rolled(p: Plane) -> Plane
-    requires { FitsPlane p }
-    ensures value { result ≡ rolled_plane p }
-    ensures fits { FitsPlane result }
-    ensures heights { Together rolled_plane rolled_place }
-{
-    Plane {
-        a: p.c,
-        b: p.a,
-        c: p.b,
-        d: p.d,
+    /// The plane with x and y exchanged.
+    pub fn swapped(self) -> Plane
+        requires { FitsPlane self }
+        ensures value { result ≡ swapped_plane self }
+        ensures fits { FitsPlane result }
+        ensures heights { Together swapped_plane swapped_place }
+    {
+        Plane {
+            a: self.b,
+            b: self.a,
+            ..self
+        }
+    }
+
+    /// The plane turned from x to y to z to x.
+    pub fn rolled(self) -> Plane
+        requires { FitsPlane self }
+        ensures value { result ≡ rolled_plane self }
+        ensures fits { FitsPlane result }
+        ensures heights { Together rolled_plane rolled_place }
+    {
+        Plane {
+            a: self.c,
+            b: self.a,
+            c: self.b,
+            ..self
+        }
     }
 }

@@ -1,4 +1,7 @@
 //! Planes and places, by value, and the largest numbers of a plane.
+//!
+//! A plane, a place or a shift is four or three plain numbers, in range or not: words and bytes from anybody,
+//! moves and products give any. So no type here has an invariant; a call that needs a range asks for it.
 
 /// The largest a, b or c of a plane.
 pub const SLOPE_LIMIT: u64 = 6;
@@ -10,7 +13,7 @@ pub const REACH: u64 = 16384;
 pub const OFFSET_LIMIT: u64 = 3 * SLOPE_LIMIT * REACH;
 
 /// A plane: a place is below it if a x + b y + c z is less than d w.
-#[derive(Clone, Copy)]
+#[derive(Clone, Copy, Debug, PartialEq, Eq)]
 pub struct Plane {
     pub a: i64,
     pub b: i64,
@@ -19,7 +22,7 @@ pub struct Plane {
 }
 
 /// A place (x / w, y / w, z / w).
-#[derive(Clone, Copy)]
+#[derive(Clone, Copy, Debug, PartialEq, Eq)]
 pub struct Place {
     pub x: i64,
     pub y: i64,
@@ -28,7 +31,7 @@ pub struct Place {
 }
 
 /// Where a place is, seen from a plane.
-#[derive(Clone, Copy)]
+#[derive(Clone, Copy, Debug, PartialEq, Eq)]
 pub enum Side {
     Below,
     On,
@@ -36,14 +39,14 @@ pub enum Side {
 }
 
 /// How two planes that lie in the same one look: the same way, or against each other.
-#[derive(Clone, Copy)]
+#[derive(Clone, Copy, Debug, PartialEq, Eq)]
 pub enum Facing {
     Alike,
     Opposite,
 }
 
 /// A step by which places are moved.
-#[derive(Clone, Copy)]
+#[derive(Clone, Copy, Debug, PartialEq, Eq)]
 pub struct Shift {
     pub x: i64,
     pub y: i64,

@@ -1,8 +1,9 @@
 -- The planes of a shape, met one after the other in its words.
 --     words-planes, coded_planes                     the planes of the words are the shape's
---     touched_here, touched_later, touched_none      a place on a plane of the words that are left
-use Rattle.std.proofs.Common.{◌≡◌, ℕ, ◌+◌, ◌<◌, ◌≤◌, true, false, ◌||◌, List, [], ◌∷◌, ◌++◌, length, get_or, drop, sym, refl, ap, ◌∙◌, ap₂, append_assoc}
-use Rattle.std.proofs.lemmas.List.{append-nil, at_drop_more, at_drop_all}
+--     word_planes-any                                a place on a plane of the words
+use Rattle.std.proofs.Common.{◌≡◌, ℕ, ◌||◌, List, [], ◌∷◌, ◌++◌, sym, refl, ap, ◌∙◌, ap₂, append_assoc}
+use Rattle.std.proofs.lemmas.List.{append-nil}
+use Rattle.std.specs.List.{list_any}
 use Rattle.plane.specs.declared.types.Plane.{Plane}
 use Rattle.plane.specs.declared.types.Place.{Place}
 use Rattle.solid.specs.declared.types.Step.{Step}
@@ -43,25 +44,9 @@ words-planes s f = fit_planes s f.each
 pub coded_planes : (ws : List ℕ) (s : Shape) → Fits s → ws ≡ words s → word_planes ws ≡ planes s
 coded_planes ws s f e = ap word_planes e ∙ words-planes s f
 
--- a place is on some plane of the words from i on: of the word at i, or of those behind it
-touched : (ws : List ℕ) (i : ℕ) (q : Place) → i < length ws →
-    on_some (word_planes (drop i ws)) q ≡ (on_some (plane_of_step (step (get_or ws i 0))) q || on_some (word_planes (drop (i + 1) ws)) q)
-unfolding word_planes
-touched ws i q h =
-    at_drop_more (λ (l : List ℕ). on_some (word_planes l) q) ws i 0 h
-    ∙ on_some-append q (plane_of_step (step (get_or ws i 0))) (word_planes (drop (i + 1) ws))
-
--- with the step at i, and whether the place is on its plane
-module _ (ws : List ℕ) (i : ℕ) (q : Place) (h : i < length ws) (x : Step) (is : x ≡ step (get_or ws i 0)) where
-  met : on_some (word_planes (drop i ws)) q ≡ (on_some (plane_of_step x) q || on_some (word_planes (drop (i + 1) ws)) q)
-  met = touched ws i q h ∙ ap (λ (y : Step). on_some (plane_of_step y) q || on_some (word_planes (drop (i + 1) ws)) q) (sym is)
-
-  pub touched_here : true ≡ on_some (plane_of_step x) q → true ≡ on_some (word_planes (drop i ws)) q
-  touched_here e = ap (λ b. b || on_some (word_planes (drop (i + 1) ws)) q) e ∙ sym met
-
-  pub touched_later : false ≡ on_some (plane_of_step x) q → on_some (word_planes (drop i ws)) q ≡ on_some (word_planes (drop (i + 1) ws)) q
-  touched_later e = met ∙ ap (λ b. b || on_some (word_planes (drop (i + 1) ws)) q) (sym e)
-
-pub touched_none : (ws : List ℕ) (i : ℕ) (q : Place) → length ws ≤ i → on_some (word_planes (drop i ws)) q ≡ false
+-- a place is on some plane of the words: on that of one of them
+pub word_planes-any : (q : Place) (ws : List ℕ) → list_any (λ w. on_some (plane_of_step (step w)) q) ws ≡ on_some (word_planes ws) q
 unfolding word_planes on_some
-touched_none ws i q h = at_drop_all (λ (l : List ℕ). on_some (word_planes l) q) ws i h
+word_planes-any q [] = refl
+word_planes-any q (w ∷ ws) =
+    ap (λ b. on_some (plane_of_step (step w)) q || b) (word_planes-any q ws) ∙ sym (on_some-append q (plane_of_step (step w)) (word_planes ws))

@@ -1,6 +1,7 @@
 -- A shape in range has one list of steps, and a list of steps one shape at most: to be the steps of a shape is a proposition.
 use Rattle.std.proofs.Common.{◌≡◌, ℕ, List, ℤ, sym, ◌∙◌}
 use mathlib.Core.List.{List-discrete}
+use mathlib.Core.Logic.{∥∥₁_elim}
 use mathlib.Core.HLevel.{is_prop→PathP, hedberg, ⊥_prop}
 use native.Mathlib.Bridge.{le_prop}
 use native.Mathlib.Decide.{ℕ_discrete}
@@ -40,3 +41,6 @@ coded_prop ws a b =
       is = is_prop→PathP (λ j. ws ≡ words (e j)) (λ j. words_set ws (words (e j))) a.is b.is i;
       fits = is_prop→PathP (λ j. Fits (e j)) (λ j. fits_prop (e j)) a.fits b.fits i;
     }
+
+pub coded : {ws : List ℕ} → ∥ Coded ws ∥₁ → Coded ws
+coded {ws} c = ∥∥₁_elim c (coded_prop ws) (λ k. k)

@@ -60,27 +60,31 @@ fn number_of(p: Plane) -> u64
     a + SLOPES * (b + SLOPES * (c + SLOPES * d))
 }
 
-/// The step that a word means; each word means one.
-pub fn step_of(w: u64) -> Step
-    ensures { result ≡ step w }
-{
-    match w {
-        0 => Step::Both,
-        1 => Step::Either,
-        2 => Step::Without,
-        _ => Step::Half(plane_of(w - 3)),
+impl From<u64> for Step {
+    ghost from_gives = { λ w s. s ≡ step w };
+
+    /// The step that a word means; each word means one.
+    fn from(w: u64) -> Step {
+        match w {
+            0 => Step::Both,
+            1 => Step::Either,
+            2 => Step::Without,
+            _ => Step::Half(plane_of(w - 3)),
+        }
     }
 }
 
-/// The word of a step.
-pub fn word_of(s: Step) -> u64
-    requires step { FitsStep s }
-    ensures { result ≡ word s }
-{
-    match s {
-        Step::Both => 0,
-        Step::Either => 1,
-        Step::Without => 2,
-        Step::Half(p) => 3 + number_of(p),
+impl Step {
+    /// The word of the step.
+    pub fn word(self) -> u64
+        requires { FitsStep self }
+        ensures { result ≡ word self }
+    {
+        match self {
+            Step::Both => 0,
+            Step::Either => 1,
+            Step::Without => 2,
+            Step::Half(p) => 3 + number_of(p),
+        }
     }
 }

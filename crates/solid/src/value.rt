@@ -1,149 +1,167 @@
 //! A shape's value at a place, by its steps.
 
-ghost use Rattle.std.specs.Prelude.{◌≡◌, ◌+◌, ◌<◌, ◌≤◌, List, length, if◌then◌else◌};
-ghost use Rattle.plane.specs.Limits.{FitsPlane, SmallPlace};
-ghost use Rattle.plane.specs.Planes.{below, on};
+ghost use Rattle.std.specs.Prelude.{◌≡◌, ◌+◌, ◌<◌, ◌≤◌, Bool, List, ◌∷◌, length};
+ghost use Rattle.plane.specs.Limits.{SmallPlace};
 ghost use Rattle.solid.specs.Shapes.{Shape, holds, planes, workshop, Fits};
-ghost use Rattle.solid.specs.Steps.{words, FitsStep, Coded};
-ghost use Rattle.solid.specs.Stacks.{after, plane_of_step, Enough, Stacked, ValuesAt};
+ghost use Rattle.solid.specs.Steps.{words, FitsStep};
+ghost use Rattle.solid.specs.Stacks.{after, plane_of_step, Enough};
+ghost use Rattle.solid.specs.Values.{StandsFor};
 ghost use Rattle.solid.specs.Examples.{on_some, told};
 
-use super::steps::step_of;
-use super::types::{Step, Told};
-use plane::sides::side_of;
+use super::types::{Step, Steps, Told};
 use plane::types::{Place, Plane, REACH, Side};
 
-/// Whether the place is below the plane.
-fn is_below(p: Plane, q: Place) -> bool
-    requires plane { FitsPlane p }
-    requires place { SmallPlace q }
-    ensures { result ≡ below p q }
+/// The planes at the workshop's end.
+pub fn walls() -> [Plane; 6]
+    ensures { result ≡ planes workshop }
 {
-    matches!(side_of(p, q), Side::Below)
-}
-
-/// Whether the place is on the plane.
-fn is_on(p: Plane, q: Place) -> bool
-    requires plane { FitsPlane p }
-    requires place { SmallPlace q }
-    ensures { result ≡ on p q }
-{
-    matches!(side_of(p, q), Side::On)
-}
-
-/// One step on the stack, which has `top` values in the front of `work`; hands back how many it has then.
-fn apply(s: Step, q: Place, work: &mut [u64], top: usize) -> usize
-    requires place { SmallPlace q }
-    requires room { top < length work.old }
-    requires enough { Enough s top }
-    ensures stack { (st : List Shape) → Stacked (ValuesAt q) st work.old top → Stacked (ValuesAt q) (after s st) work.new result }
-    ensures grows { result ≤ top + 1 }
-{
-    match s {
-        Step::Half(p) => {
-            work[top] = is_below(p, q) as u64;
-            top + 1
-        }
-        Step::Both => {
-            work[top - 2] &= work[top - 1];
-            top - 1
-        }
-        Step::Either => {
-            work[top - 2] |= work[top - 1];
-            top - 1
-        }
-        Step::Without => {
-            work[top - 2] &= work[top - 1] ^ 1;
-            top - 1
-        }
-    }
-}
-
-/// Whether the place is in the shape; `work` has room for a value for each step.
-pub fn holds_at(steps: &[u64], q: Place, work: &mut [u64]) -> bool
-    requires shape { Coded steps.now }
-    requires place { SmallPlace q }
-    requires room { length steps.now ≤ length work.old }
-    ensures { (s : Shape) → Fits s → steps.now ≡ words s → result ≡ holds s q }
-{
-    let mut top = 0;
-    for w in steps {
-        top = apply(step_of(*w), q, work, top);
-    }
-    work[0] == 1
-}
-
-/// Whether the place is on the plane of the step, if it has one.
-fn meets(s: Step, q: Place) -> bool
-    requires fits { FitsStep s }
-    requires place { SmallPlace q }
-    ensures { result ≡ on_some (plane_of_step s) q }
-{
-    match s {
-        Step::Half(p) => is_on(p, q),
-        Step::Both | Step::Either | Step::Without => false,
-    }
-}
-
-/// Whether the place is on a plane of the shape.
-pub fn touches(steps: &[u64], q: Place) -> bool
-    requires shape { Coded steps.now }
-    requires place { SmallPlace q }
-    ensures { (s : Shape) → Fits s → steps.now ≡ words s → result ≡ on_some (planes s) q }
-{
-    for w in steps {
-        if meets(step_of(*w), q) {
-            return true;
-        }
-    }
-    false
+    let wall = |a, b, c| Plane {
+        a,
+        b,
+        c,
+        d: REACH as i64,
+    };
+    [
+        wall(1, 0, 0),
+        wall(-1, 0, 0),
+        wall(0, 1, 0),
+        wall(0, -1, 0),
+        wall(0, 0, 1),
+        wall(0, 0, -1),
+    ]
 }
 
 /// Whether the place is on a plane of the workshop.
 fn on_walls(q: Place) -> bool
-    requires place { SmallPlace q }
+    requires { SmallPlace q }
     ensures { result ≡ on_some (planes workshop) q }
 {
-    let end = REACH * q.w;
-    let x = q.x.unsigned_abs();
-    let y = q.y.unsigned_abs();
-    let z = q.z.unsigned_abs();
-    (x == end) | (y == end) | (z == end)
+    walls().iter().any(|p| p.side_of(q) == Side::On)
 }
 
 /// Whether the place is in the workshop.
 fn in_walls(q: Place) -> bool
-    requires place { SmallPlace q }
+    requires { SmallPlace q }
     ensures { result ≡ holds workshop q }
 {
-    let end = REACH * q.w;
-    let x = q.x.unsigned_abs();
-    let y = q.y.unsigned_abs();
-    let z = q.z.unsigned_abs();
-    (x < end) & (y < end) & (z < end)
+    walls().iter().all(|p| p.side_of(q) == Side::Below)
 }
 
-/// What is told, if it is known whether the place is on a plane and whether it is in the solid.
-fn decided(touching: bool, inside: bool) -> Told
-    ensures { result ≡ (if touching then Told.On else (if inside then Told.In else Told.Out)) }
-{
-    if touching {
-        Told::On
-    } else if inside {
-        Told::In
-    } else {
-        Told::Out
+/// The values of the shapes on a stack at a place, the newest last, in the front of lent words.
+#[derive(Drop)]
+struct Values<'w> {
+    words: &'w mut [u64],
+    top: usize,
+}
+
+impl Values<'_> {
+    /// Puts a value on the stack.
+    fn push(&mut self, value: bool)
+        requires { self.old.top < length self.old.words.now }
+        ensures stack { (q : Place) (s : Shape) (st : List Shape) → value ≡ holds s q → StandsFor self.old q st → StandsFor self.new q (s ∷ st) }
+        ensures grows { self.new.top ≡ self.old.top + 1 }
+        ensures room { length self.new.words.now ≡ length self.old.words.now }
+    {
+        self.words[self.top] = u64::from(value);
+        self.top += 1;
+    }
+
+    /// Takes the newest value from the stack.
+    fn pop(&mut self) -> bool
+        requires some { 0 < self.old.top }
+        requires room { self.old.top ≤ length self.old.words.now }
+        ensures stack { (q : Place) (s : Shape) (st : List Shape) → StandsFor self.old q (s ∷ st) → (result ≡ holds s q) × StandsFor self.new q st }
+        ensures shrinks { self.new.top + 1 ≡ self.old.top }
+        ensures room { length self.new.words.now ≡ length self.old.words.now }
+    {
+        self.top -= 1;
+        self.words[self.top] == 1
+    }
+
+    /// Joins the two newest values.
+    fn join<F: FnOnce(bool, bool) -> bool>(&mut self, op: F)
+        requires callable { F.IsAlwaysCallable op }
+        requires some { 2 ≤ self.old.top }
+        requires room { self.old.top ≤ length self.old.words.now }
+        ensures stack { (q : Place) (s t u : Shape) (st : List Shape) → ((v : Bool) → F.post op (holds s q) (holds t q) v → v ≡ holds u q) → StandsFor self.old q (t ∷ (s ∷ st)) → StandsFor self.new q (u ∷ st) }
+        ensures shrinks { self.new.top + 1 ≡ self.old.top }
+        ensures room { length self.new.words.now ≡ length self.old.words.now }
+    {
+        let newest = self.pop();
+        let other = self.pop();
+        self.push(op(other, newest));
+    }
+
+    /// Does one step on the stack.
+    fn apply(&mut self, s: Step, q: Place)
+        requires place { SmallPlace q }
+        requires room { self.old.top < length self.old.words.now }
+        requires enough { Enough s self.old.top }
+        ensures stack { (st : List Shape) → StandsFor self.old q st → StandsFor self.new q (after s st) }
+        ensures grows { self.new.top ≤ self.old.top + 1 }
+        ensures room { length self.new.words.now ≡ length self.old.words.now }
+    {
+        match s {
+            Step::Half(p) => self.push(p.side_of(q) == Side::Below),
+            Step::Both => self.join(|s, t| s && t),
+            Step::Either => self.join(|s, t| s || t),
+            Step::Without => self.join(|s, t| s && !t),
+        }
     }
 }
 
-/// Whether the place is in the solid of the shape or out of it, or on a plane of the shape or of the workshop.
-pub fn place_told(steps: &[u64], q: Place, work: &mut [u64]) -> Told
-    requires shape { Coded steps.now }
-    requires place { SmallPlace q }
-    requires room { length steps.now ≤ length work.old }
-    ensures { (s : Shape) → Fits s → steps.now ≡ words s → result ≡ told s q }
-{
-    let touching = on_walls(q) | touches(steps, q);
-    let inside = in_walls(q) & holds_at(steps, q, work);
-    decided(touching, inside)
+impl Step {
+    /// Whether the place is on the plane of the step, if it has one.
+    fn meets(self, q: Place) -> bool
+        requires fits { FitsStep self }
+        requires place { SmallPlace q }
+        ensures { result ≡ on_some (plane_of_step self) q }
+    {
+        match self {
+            Step::Half(p) => p.side_of(q) == Side::On,
+            Step::Both | Step::Either | Step::Without => false,
+        }
+    }
+}
+
+impl Steps<'_> {
+    /// Whether the place is in the shape; `work` has room for a value for each step.
+    pub fn holds_at(self, q: Place, work: &mut [u64]) -> bool
+        requires place { SmallPlace q }
+        requires room { length self.words.now ≤ length work.old }
+        ensures { (s : Shape) → Fits s → self.entry.words.now ≡ words s → result ≡ holds s q }
+    {
+        let mut values = Values {
+            words: work,
+            top: 0,
+        };
+        for w in self.words {
+            values.apply(Step::from(*w), q);
+        }
+        values.pop()
+    }
+
+    /// Whether the place is on a plane of the shape.
+    pub fn touches(self, q: Place) -> bool
+        requires place { SmallPlace q }
+        ensures { (s : Shape) → Fits s → self.entry.words.now ≡ words s → result ≡ on_some (planes s) q }
+    {
+        self.words.iter().any(|w| Step::from(*w).meets(q))
+    }
+
+    /// Whether the place is in the solid of the shape or out of it, or on a plane of the shape or of the
+    /// workshop; `work` has room for a value for each step.
+    pub fn place_told(self, q: Place, work: &mut [u64]) -> Told
+        requires place { SmallPlace q }
+        requires room { length self.words.now ≤ length work.old }
+        ensures { (s : Shape) → Fits s → self.entry.words.now ≡ words s → result ≡ told s q }
+    {
+        if on_walls(q) || self.touches(q) {
+            Told::On
+        } else if in_walls(q) && self.holds_at(q, work) {
+            Told::In
+        } else {
+            Told::Out
+        }
+    }
 }

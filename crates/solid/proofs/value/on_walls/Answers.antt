@@ -1,11 +1,17 @@
-use Rattle.std.proofs.Common.{nat_abs, ap, ◌∙◌}
-use Rattle.arith.proofs.Sized.{is_num}
-use Rattle.solid.proofs.Walls.{on_walls}
+use Rattle.std.proofs.Common.{sym, ◌∙◌, rules}
+use Rattle.std.proofs.lemmas.Iterator.{YieldsList-from_slice}
+use Rattle.std.proofs.lemmas.Iterator.Adapters.{serves_from_places}
+use Rattle.std.proofs.lemmas.Iterator.Search.{any_from_yields_List}
+use Rattle.plane.specs.Planes.{on}
+use Rattle.solid.specs.Shapes.{planes, workshop}
+use Rattle.solid.proofs.Sided.{on-side}
+use Rattle.solid.proofs.Walls.{on_some-any, walls_fit}
 use Rattle.solid.proofs.value.on_walls.Goals as goal
+
+pub any-requires-clause-callable : goal.any-requires-clause-callable
+any-requires-clause-callable c =
+    serves_from_places (YieldsList-from_slice (planes workshop) cc) (λ x q r. search rules) (λ x k h e. let f = walls_fit x.now (k, (h, sym e)) in search rules)
 
 pub returns : goal.returns
 returns c =
-    on_walls c.args.q c.unsigned_abs-x.result c.unsigned_abs-y.result c.unsigned_abs-z.result
-    (c.unsigned_abs-x.ensures.value ∙ ap nat_abs (is_num c.requires.place.x tt).same)
-    (c.unsigned_abs-y.ensures.value ∙ ap nat_abs (is_num c.requires.place.y tt).same)
-    (c.unsigned_abs-z.ensures.value ∙ ap nat_abs (is_num c.requires.place.z tt).same)
+    any_from_yields_List (λ p. on p c.args.q) _ _ c.any.result c.any.ensures.ran (YieldsList-from_slice (planes workshop) cc) (λ x b q k. search (rules, on-side x.now c.args.q)) ∙ on_some-any c.args.q (planes workshop)
