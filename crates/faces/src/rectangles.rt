@@ -8,8 +8,7 @@ ghost use Rattle.plane.specs.Moves.{rolled_place};
 ghost use Rattle.faces.specs.Blocks.{middle_at, round_at, high_face, low_face, rolled_face, rolled_back, block_faces};
 
 use super::types::{Block, Bounds, Rectangle};
-use plane::moves::rolled;
-use plane::types::Place;
+use plane::types::{Place, Plane};
 
 /// A place with whole numbers.
 fn whole(x: i64, y: i64, z: i64) -> Place
@@ -37,8 +36,8 @@ impl Rectangle {
         ensures { result ≡ rolled_face self }
     {
         Rectangle {
-            plane: rolled(self.plane),
-            edges: self.edges.map(rolled),
+            plane: self.plane.rolled(),
+            edges: self.edges.map(Plane::rolled),
             place: turned_place(self.place),
             corners: self.corners.map(turned_place),
         }

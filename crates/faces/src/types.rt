@@ -35,7 +35,7 @@ impl Model for Block {
 }
 
 /// A face of a block, which has four edges and four corners. All its numbers are in range.
-#[derive(Clone, Copy)]
+#[derive(Clone, Copy, Debug, PartialEq, Eq)]
 pub struct Rectangle {
     pub plane: Plane,
     pub edges: [Plane; 4],

@@ -1,6 +1,6 @@
 //! A list in lent memory.
 
-ghost use Rattle.std.specs.Prelude.{◌≡◌, ◌<◌, [], ◌∷◌, ◌++◌, length};
+ghost use Rattle.std.specs.Prelude.{◌≡◌, ◌+◌, ◌<◌, ◌≤◌, [], ◌∷◌, ◌++◌, length};
 
 use std::marker::Model;
 
@@ -40,9 +40,20 @@ impl<'s, T: Copy> LentList<'s, T> {
         self.len += 1;
     }
 
+    /// Puts the elements of a slice behind the others.
+    pub fn extend_from_slice(&mut self, xs: &[T])
+        requires { length self.old.items + length xs.now ≤ self.old.room }
+        ensures { self.new ≡ record { items = self.old.items ++ xs.now; room = self.old.room } }
+    {
+        for x in xs {
+            self.push(*x);
+        }
+    }
+
     /// The elements.
     pub fn into_slice(self) -> &'s [T]
-        ensures { result.now ≡ self.entry.items }
+        ensures items { result.now ≡ self.entry.items }
+        ensures within { length result.now ≤ self.entry.room }
     {
         let LentList { slots, len } = self;
         &slots[..len]

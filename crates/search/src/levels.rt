@@ -1,10 +1,10 @@
 //! What is special to level planes: the numbers of x, y and z that stand for all, and a walk over them.
 
-ghost use Rattle.std.specs.Prelude.{IfSome, ◌≡◌, ◌+◌, ◌<◌, ◌≤◌, length, take, pos, ◌+ℤ◌, ◌*ℤ◌};
+ghost use Rattle.std.specs.Prelude.{◌≡◌, ◌<◌, ◌≤◌, length, pos, ◌+ℤ◌, ◌*ℤ◌, IfSome};
 ghost use Rattle.std.specs.Int.{w64, cast_signed};
 ghost use Rattle.arith.specs.Bounds.{Short};
-ghost use Rattle.plane.specs.Limits.{FitsPlane, SmallPlace, slope_limit, offset_limit};
-ghost use Rattle.search.specs.Levels.{Level, AllLevel, BaseLevel, slope_along, number_along, base_along, numbers, middles, spots, spot_limit, halved, AllShort, Listed, Standing};
+ghost use Rattle.plane.specs.Limits.{FitsPlane, SmallPlace, offset_limit};
+ghost use Rattle.search.specs.Levels.{Level, slope_along, number_along, base_along, numbers, middles, spots, spot_limit, halved, AllShort, Listed, Standing};
 ghost use Rattle.search.specs.Search.{OffAt, BySidesAt, Found, lent_words};
 
 use super::lent::LentList;
@@ -73,6 +73,7 @@ fn place_of(x: u64, y: u64, z: u64) -> Place
 }
 
 /// A place for which the question holds, with doubled coordinates of three lists.
+// The three loops are left at once, by their label.
 fn first_of<Q: Question>(
     question: &Q,
     xs: &[u64],
