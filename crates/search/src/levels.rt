@@ -8,7 +8,7 @@ ghost use Rattle.search.specs.Levels.{Level, slope_along, number_along, base_alo
 ghost use Rattle.search.specs.Search.{OffAt, BySidesAt, Found, lent_words};
 
 use super::lent::LentList;
-use super::places::Question;
+use super::places::{Asker, Question};
 use plane::types::{OFFSET_LIMIT, Place, Plane};
 use std::marker::Model;
 
@@ -74,25 +74,18 @@ fn place_of(x: u64, y: u64, z: u64) -> Place
 
 /// A place for which the question holds, with doubled coordinates of three lists.
 // The three loops are left at once, by their label.
-fn first_of<Q: Question>(
-    question: &Q,
-    xs: &[u64],
-    ys: &[u64],
-    zs: &[u64],
-    work: &mut [u64],
-) -> Option<Place>
-    requires ready { Q.ready question.now (length work.old) }
+fn first_of<Q: Question>(asker: &mut Asker<Q>, xs: &[u64], ys: &[u64], zs: &[u64]) -> Option<Place>
     requires x { AllShort (numbers xs.now) }
     requires y { AllShort (numbers ys.now) }
     requires z { AllShort (numbers zs.now) }
-    ensures { Found (Listed (numbers xs.now) (numbers ys.now) (numbers zs.now)) (Q.asked question.now) result }
+    ensures { Found (Listed (numbers xs.now) (numbers ys.now) (numbers zs.now)) (Q.asked asker.old) result }
 {
     let mut found = None;
     'search: for x in xs {
         for y in ys {
             for z in zs {
                 let q = place_of(*x, *y, *z);
-                if question.holds_at(q, work) {
+                if asker.holds_at(q) {
                     found = Some(q);
                     break 'search;
                 }
@@ -165,14 +158,12 @@ impl<'p> Grid<'p> {
     /// sought among the places that stand for all others.
     pub(crate) fn search<Q: Question>(
         &self,
-        question: &Q,
+        asker: &mut Asker<Q>,
         lent: &mut [u64],
-        work: &mut [u64],
     ) -> Option<Place>
-        requires ready { Q.ready question.now (length work.old) }
-        requires sides { BySidesAt self.now.base self.now.planes (Q.asked question.now) }
+        requires sides { BySidesAt self.now.base self.now.planes (Q.asked asker.old) }
         requires room { lent_words (length self.now.planes) ≤ length lent.old }
-        ensures { Found (OffAt self.now.base self.now.planes) (Q.asked question.now) result }
+        ensures { Found (OffAt self.now.base self.now.planes) (Q.asked asker.old) result }
     {
         let each = self.planes.len() + 1;
         let (xs, rest) = lent.split_at_mut(each);
@@ -180,6 +171,6 @@ impl<'p> Grid<'p> {
         let xs = self.spots(Axis::X, xs);
         let ys = self.spots(Axis::Y, ys);
         let zs = self.spots(Axis::Z, zs);
-        first_of(question, xs, ys, zs, work)
+        first_of(asker, xs, ys, zs)
     }
 }

@@ -8,6 +8,7 @@ ghost use Rattle.search.specs.Levels.{Level, AllLevel};
 
 use super::levels::Grid;
 use plane::types::{Place, Plane};
+use std::marker::Model;
 
 /// A question that is asked of places.
 pub trait Question {
@@ -22,6 +23,35 @@ pub trait Question {
         requires room { ready self.now (length work.old) }
         requires place { SmallPlace q }
         ensures { result ≡ asked self.now q };
+}
+
+/// A question, and words that are lent for it.
+#[derive(Drop)]
+pub(crate) struct Asker<'q, 'w, Q: Question> {
+    pub(crate) question: &'q Q,
+    pub(crate) work: &'w mut [u64],
+}
+
+// Clauses see the question.
+impl<'q, 'w, Q: Question> Model for Asker<'q, 'w, Q> {
+    ghost use Rattle.std.specs.Prelude.{length};
+
+    ghost Value = { Q };
+
+    ghost view = { λ a. a.question.now };
+
+    ghost invariant = { λ a. Q.ready a.question.now (length a.work.now) };
+}
+
+impl<'q, 'w, Q: Question> Asker<'q, 'w, Q> {
+    /// Whether the question holds at a place.
+    pub(crate) fn holds_at(&mut self, q: Place) -> bool
+        requires { SmallPlace q }
+        ensures value { result ≡ Q.asked self.old q }
+        ensures same { self.new ≡ self.old }
+    {
+        self.question.holds_at(q, self.work)
+    }
 }
 
 /// A place on none of the planes for which the question holds, if there is one. The question depends on nothing
@@ -39,7 +69,7 @@ pub fn find<Q: Question>(
     ensures { Found (Off planes.now) (Q.asked question.now) result }
 {
     let grid = Grid { base: None, planes };
-    grid.search(question, lent, work)
+    grid.search(&mut Asker { question, work }, lent)
 }
 
 /// A place on the base, and on none of the planes that crosses it, for which the question holds, if there is one.
@@ -62,5 +92,5 @@ pub fn find_on<Q: Question>(
         base: Some(base),
         planes,
     };
-    grid.search(question, lent, work)
+    grid.search(&mut Asker { question, work }, lent)
 }
