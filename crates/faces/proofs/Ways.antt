@@ -1,5 +1,6 @@
 -- The six ways along the axes. A block reaches from `bot` to `top` each way, and each face looks one way.
-use Rattle.std.proofs.Common.{◌≡◌, List, [], ◌∷◌, map, ℤ, pos, negsuc, ◌+ℤ◌, ◌-ℤ◌, ◌*ℤ◌, neg_ℤ, refl, ap, arith}
+use Rattle.std.proofs.Common.{◌≡◌, List, [], ◌∷◌, map, ℤ, pos, negsuc, ◌+ℤ◌, ◌-ℤ◌, ◌*ℤ◌, neg_ℤ, sym, refl, ap, arith}
+use lib.IntN.{neg_ℤ-neg_ℤ}
 use Rattle.std.specs.Int.{int_max, int_min}
 use Rattle.std.proofs.lemmas.Int.{ints, clamps}
 use Rattle.plane.specs.declared.types.Plane.{Plane}
@@ -88,23 +89,20 @@ bot b up = b.z0
 bot b down = neg_ℤ b.z1
 
 -- ---- what holds of each way
-neg_neg : (n : ℤ) → n ≡ neg_ℤ (neg_ℤ n)
-neg_neg n = omega (arith, ints)
-
 pub far-opp : (e : Way) (q : Place) → far (opp e) q ≡ neg_ℤ (far e q)
 far-opp east q = refl
-far-opp west q = neg_neg q.x
+far-opp west q = sym (neg_ℤ-neg_ℤ q.x)
 far-opp north q = refl
-far-opp south q = neg_neg q.y
+far-opp south q = sym (neg_ℤ-neg_ℤ q.y)
 far-opp up q = refl
-far-opp down q = neg_neg q.z
+far-opp down q = sym (neg_ℤ-neg_ℤ q.z)
 
 pub bot-top : (b : Bounds) (e : Way) → bot b e ≡ neg_ℤ (top b (opp e))
-bot-top b east = neg_neg b.x0
+bot-top b east = sym (neg_ℤ-neg_ℤ b.x0)
 bot-top b west = refl
-bot-top b north = neg_neg b.y0
+bot-top b north = sym (neg_ℤ-neg_ℤ b.y0)
 bot-top b south = refl
-bot-top b up = neg_neg b.z0
+bot-top b up = sym (neg_ℤ-neg_ℤ b.z0)
 bot-top b down = refl
 
 pub turned-toward : (e : Way) (d : ℤ) → turned (toward e d) ≡ toward (opp e) (neg_ℤ d)

@@ -70,6 +70,7 @@ impl Block {
     }
 
     /// The faces that look toward more x and toward less.
+    #[tactic(auto, using(std::proofs::lemmas::Int::ints))]
     fn ends(self) -> [Rectangle; 2]
         ensures { result ≡ high_face self ∷ low_face self ∷ [] }
     {

@@ -49,6 +49,7 @@ impl Axis {
 }
 
 /// The middle behind a number, doubled.
+#[tactic(auto, using(std::proofs::lemmas::Int::ints))]
 fn middle_behind(v: i64) -> u64
     requires { Short v offset_limit }
     ensures { cast_signed w64 result ≡ pos 2 *ℤ v +ℤ pos 1 }
@@ -115,6 +116,7 @@ impl<'p> Model for Grid<'p> {
 
 impl<'p> Grid<'p> {
     /// Doubled coordinates, one for each way to lie between the planes of an axis.
+    #[tactic(auto, using(std::proofs::lemmas::Int::ints))]
     fn middles<'w>(&self, axis: Axis, words: &'w mut [u64]) -> &'w [u64]
         requires { length self.now.planes < length words.old }
         ensures value { numbers result.now ≡ middles axis self.now.planes }
@@ -139,6 +141,7 @@ impl<'p> Grid<'p> {
     }
 
     /// The one doubled coordinate of the base if it is of this axis, else those between the planes.
+    #[tactic(auto, using(std::proofs::lemmas::Int::ints))]
     fn spots<'w>(&self, axis: Axis, words: &'w mut [u64]) -> &'w [u64]
         requires { length self.now.planes < length words.old }
         ensures value { numbers result.now ≡ spots self.now.base self.now.planes axis }

@@ -1,8 +1,8 @@
 use Rattle.std.proofs.Common.{List, subst, arith, ap}
 use Rattle.plane.specs.declared.types.Plane.{Plane}
 use Rattle.solid.specs.Stacks.{shape_of}
-use Rattle.search.specs.Search.{Agree, Off, Found}
-use Rattle.pieces.specs.Questions.{joined_in, Room}
+use Rattle.search.specs.Search.{Agree}
+use Rattle.pieces.specs.Questions.{Room}
 use Rattle.pieces.proofs.Sides.{joined_agree}
 use Rattle.pieces.proofs.place_where.Goals as goal
 
@@ -19,9 +19,3 @@ find-requires g c =
       sides = λ q r _ _ a. joined_agree g.J.Join.joined s t q r (subst (λ (ps : List Plane). Agree ps q r) c.gather_two-planes.ensures.are a);
       room = omega (arith, n, m);
     }
-
-pub returns : goal.returns
-returns g c =
-    let s = shape_of c.args.parts.now.first in
-    let t = shape_of c.args.parts.now.second in
-    subst (λ (ps : List Plane). Found (Off ps) (joined_in g.J.Join.joined s t) c.find.result) c.gather_two-planes.ensures.are c.find.ensures

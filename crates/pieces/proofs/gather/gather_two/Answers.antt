@@ -1,30 +1,13 @@
-use Rattle.std.proofs.Common.{◌≡◌, List, ◌++◌, length, sym, ap, ◌∙◌, subst, ap₂, arith, length-append}
+use Rattle.std.proofs.Common.{◌≡◌, List, ◌++◌, sym, ap, ◌∙◌, subst, ap₂, arith}
 use Rattle.plane.specs.declared.types.Plane.{Plane}
 use Rattle.solid.specs.Shapes.{planes, solid, workshop}
 use Rattle.solid.specs.Stacks.{shape_of}
 use Rattle.search.specs.Lent.{Lent}
 use Rattle.search.specs.Levels.{AllLevel}
 use Rattle.pieces.specs.Questions.{Parts, LevelSteps, planes_of_two}
-use Rattle.pieces.proofs.Shaped.{coded_planes}
+use Rattle.pieces.proofs.Shaped.{shaped_planes}
 use Rattle.pieces.proofs.Levels.{two_level}
 use Rattle.pieces.proofs.gather.gather_two.Goals as goal
-
-pub gather-requires-2 : goal.gather-requires-2
-gather-requires-2 c =
-    let room = λ (l : Lent Plane). l.room in
-    let many = λ (l : Lent Plane). length l.items in
-    omega (
-      arith,
-      length-append {A = Plane},
-      c.gather.ensures.few,
-      ap room c.gather.ensures.are,
-      ap room c.extend_from_slice.ensures,
-      ap many c.extend_from_slice.ensures,
-      ap room c.new-planes.ensures,
-      ap many c.new-planes.ensures,
-      ap (λ (p : Parts). length p.first) c.parts.view_is,
-      ap (λ (p : Parts). length p.second) c.parts.view_is,
-    )
 
 pub returns : goal.returns
 unfolding solid planes
@@ -34,7 +17,7 @@ returns c =
     let room = λ (l : Lent Plane). l.room in
     let e : c.into_slice.result.now ≡ planes_of_two (shape_of c.args.parts.now.first) (shape_of c.args.parts.now.second) =
     rw (c.into_slice.ensures.items, c.gather-2.ensures.are, c.gather.ensures.are, c.extend_from_slice.ensures, c.new-planes.ensures, c.walls.ensures)
-    (ap₂ (λ (x y : List Plane). (planes workshop ++ x) ++ y) (coded_planes p.first.words.now k.0.coded) (coded_planes p.second.words.now k.1.coded)
+    (ap₂ (λ (x y : List Plane). (planes workshop ++ x) ++ y) (shaped_planes p.first.words.now k.0.coded) (shaped_planes p.second.words.now k.1.coded)
     ∙ ap (λ (r : Parts). planes_of_two (shape_of r.first) (shape_of r.second)) c.parts.view_is) in
     let l = subst (λ (r : Parts). LevelSteps r.first × LevelSteps r.second) c.parts.view_is k in
     record {

@@ -6,12 +6,6 @@ use Rattle.faces.specs.Blocks.{block_piece, high_face, low_face, FitsBlock}
 use Rattle.faces.proofs.Ranges.{high_fits, low_fits}
 use Rattle.faces.proofs.types.Block.ends.Goals as goal
 
-pub middle_at-requires : goal.middle_at-requires
-middle_at-requires c = let f = c.self.invariant.x in record { size = omega (arith, ints) }
-
-pub middle_at-requires-2 : goal.middle_at-requires-2
-middle_at-requires-2 c = let f = c.self.invariant.x in record { size = omega (arith, ints) }
-
 pub invariant_of-result : goal.invariant_of-result
 unfolding block_piece planes box high_face
 invariant_of-result c =

@@ -1,6 +1,6 @@
 use Rattle.std.proofs.Common.{◌≡◌, subst, ℕ, List, ℤ, pos, ◌+ℤ◌, ◌*ℤ◌, sym, ap, ◌∙◌, arith, length-append}
 use Rattle.std.proofs.lemmas.Grind.{common_steps}
-use Rattle.arith.proofs.Sized.{is_num, is_short}
+use Rattle.arith.proofs.Sized.{is_num}
 use Rattle.solid.proofs.Members.{has_read}
 use Rattle.search.specs.Levels.{Grid, AllLevel, numbers, middles, AllShort}
 use Rattle.search.proofs.Middles.{one_more, none_more, middles_short}
@@ -9,9 +9,6 @@ use Rattle.search.proofs.levels.Grid.middles.Goals.{in-Some, in_default}
 
 pub number_of-requires : goal.number_of-requires
 number_of-requires c = c.self.invariant.1 _ (has_read c.self.inside.planes.now c.loop-p.p-index _ c.loop-p-test.true)
-
-pub middle_behind-requires : goal.middle_behind-requires
-middle_behind-requires c = is_short (is_num c.in-Some.ensures.short tt)
 
 pub loop-p-preserved : goal.loop-p-preserved
 loop-p-preserved c =

@@ -1,11 +1,8 @@
 use Rattle.std.proofs.Common.{◌≡◌, List, [], ◌∷◌, ℤ, Option, pos, ◌*ℤ◌, sym, ap, ◌∙◌, subst, lit≤}
-use Rattle.arith.proofs.Sized.{is_num, is_mul, is_back, is_fits, is_pos}
+use Rattle.arith.proofs.Sized.{is_num, is_mul, is_back, is_pos}
 use Rattle.search.specs.Levels.{numbers, spots_by, middles, AllShort}
 use Rattle.search.proofs.Middles.{twice_short}
 use Rattle.search.proofs.levels.Grid.spots.Goals as goal
-
-pub overflow_mul-v : goal.overflow_mul-v
-overflow_mul-v c = is_fits (is_mul (is_pos {k = 2} {n = 2} (lit≤ tt)) (is_num c.in-Some.ensures.short tt)) tt
 
 pub returns-in-Some : goal.returns-in-Some
 returns-in-Some c =
