@@ -1,13 +1,12 @@
 -- Below, on and side by the sign of the height.
---     below-height, not_below-height, on-height, off_height       what a test says of the height
---     height-below, height_not_below, height-on, height_off       what the height says of the test
---     side-height, height-side                                    the same for the side, by a sign
---     same_side, by_side                                          heights of the same sign, or the same side: all three agree
-use Rattle.std.proofs.Common.{◌≡◌, zero, suc, Bool, true, false, cond, ◌&&◌, ℤ, pos, negsuc, ◌≤ℤ◌, ◌<ℤ◌, sym, refl, ap, ◌∙◌, subst, inl, inr}
+--     below-height, on-height              what a test says of the height
+--     height-on, height_not_below          what the height says of the test
+--     height-side, side-sgn                the same for the side, by a sign
+--     same_side, by_side                   heights of the same sign, or the same side: all three agree
+use Rattle.std.proofs.Common.{◌≡◌, zero, suc, Bool, true, false, cond, ◌&&◌, ℤ, pos, negsuc, ◌≤ℤ◌, ◌<ℤ◌, sym, refl, ap, ◌∙◌, inl, inr}
 use Prim.Native.Nat.compare
 use lib.Signed.{lt_z, le_z, clash_ℤ}
-use Rattle.std.proofs.lemmas.Int.{by_lt_z}
-use Rattle.std.proofs.lemmas.Bool.{true≢false, false≢true, cases_Bool}
+use Rattle.std.proofs.lemmas.Bool.{false≢true, cases_Bool}
 use Rattle.arith.proofs.Order.{Sign, minus, none, plus, sgn, Says, sgn_says, says_sgn}
 use Rattle.plane.specs.declared.types.Plane.{Plane}
 use Rattle.plane.specs.declared.types.Place.{Place}
@@ -76,27 +75,12 @@ pub on-height : (p : Plane) (q : Place) → on p q ≡ true → height p q ≡ p
 on-height p q e = none_says (sgn (height p q)) (height p q) (sgn_says (height p q)) (sym (on_is p q) ∙ e)
 
 -- ---- what the height says
-pub height-below : (p : Plane) (q : Place) → height p q <ℤ pos 0 → below p q ≡ true
-height-below p q h = below_is p q ∙ ap is_minus (says_sgn minus (height p q) h)
-
 pub height-on : (p : Plane) (q : Place) → height p q ≡ pos 0 → on p q ≡ true
 height-on p q h = on_is p q ∙ ap is_none (says_sgn none (height p q) h)
 
 -- ---- where a test fails
-not_below : (h : ℤ) → (h <ℤ pos 0 → ⊥) → pos 0 ≤ℤ h
-not_below h n = by_lt_z h (pos 0) (λ k. absurd (n k)) (λ k. k)
-
-pub not_below-height : (p : Plane) (q : Place) → below p q ≡ false → pos 0 ≤ℤ height p q
-not_below-height p q e = not_below (height p q) (λ h. true≢false (sym (height-below p q h) ∙ e))
-
-pub off_height : (p : Plane) (q : Place) → on p q ≡ false → height p q ≡ pos 0 → ⊥
-off_height p q e h = true≢false (sym (height-on p q h) ∙ e)
-
 pub height_not_below : (p : Plane) (q : Place) → pos 0 ≤ℤ height p q → below p q ≡ false
 height_not_below p q h = elim (cases_Bool (below p q)) [ inl t ↦ clash_ℤ (below-height p q t) h | inr f ↦ f ]
-
-pub height_off : (p : Plane) (q : Place) → (height p q ≡ pos 0 → ⊥) → on p q ≡ false
-height_off p q n = elim (cases_Bool (on p q)) [ inl t ↦ absurd (n (on-height p q t)) | inr f ↦ f ]
 
 -- ---- the side
 abbrev pub sign_at : Side → Sign
@@ -114,9 +98,6 @@ height-side p q s h = side_is p q ∙ ap side_at (says_sgn s (height p q) h)
 
 pub side-sgn : (p : Plane) (q : Place) → sgn (height p q) ≡ sign_at (side p q)
 side-sgn p q = sym (ap sign_at (side_is p q) ∙ sign_side (sgn (height p q)))
-
-pub side-height : (p : Plane) (q : Place) (s : Sign) → side p q ≡ side_at s → Says s (height p q)
-side-height p q s e = subst (λ (t : Sign). Says t (height p q)) (side-sgn p q ∙ ap sign_at e ∙ sign_side s) (sgn_says (height p q))
 
 -- ---- two places, each seen from a plane, on the same side
 pub record SameSide (p : Plane) (q : Place) (r : Plane) (s : Place) : Type 0 where

@@ -1,4 +1,5 @@
--- Planes in range: a changed plane is in range where the plane is, and a plane that the code puts together is the one with its numbers.
+-- Planes in range: a changed plane is in range where the plane is, a plane that the code puts together is the one with its numbers,
+-- and `==` tells whether two planes are one.
 use Rattle.std.proofs.Common.{◌≡◌, Bool, ◌&&◌, int_eq, Decides, ℤ, pos, neg_ℤ, ap, ◌∙◌, arith}
 use Rattle.std.proofs.lemmas.Int.{ints}
 use Rattle.std.proofs.lemmas.Bool.Decides.{Decides-and, Decides-at, Decides-int_eq, Decides-like}
@@ -6,7 +7,7 @@ use Rattle.arith.proofs.Sized.{short_neg}
 use Rattle.plane.specs.declared.types.Plane.{Plane}
 use Rattle.plane.specs.Limits.{FitsPlane}
 use Rattle.plane.specs.Planes.{turned}
-use Rattle.plane.specs.Moves.{mirrored_plane, swapped_plane, rolled_plane}
+use Rattle.plane.specs.Moves.{rolled_plane}
 
 pub made : {s t u v : ℤ} (p : Plane) → s ≡ p.a → t ≡ p.b → u ≡ p.c → v ≡ p.d → record { a = s; b = t; c = u; d = v } ≡ p
 made {s} {t} {u} {v} p a b c d =
@@ -34,14 +35,6 @@ turned_fits f = record {
   d = short_neg f.d;
   sloped = λ z. f.sloped (neg_zero _ z.0, neg_zero _ z.1, neg_zero _ z.2);
 }
-
-pub mirrored_fits : {p : Plane} → FitsPlane p → FitsPlane (mirrored_plane p)
-unfolding mirrored_plane
-mirrored_fits f = record { a = short_neg f.a; b = f.b; c = f.c; d = f.d; sloped = λ z. f.sloped (neg_zero _ z.0, z.1, z.2) }
-
-pub swapped_fits : {p : Plane} → FitsPlane p → FitsPlane (swapped_plane p)
-unfolding swapped_plane
-swapped_fits f = record { a = f.b; b = f.a; c = f.c; d = f.d; sloped = λ z. f.sloped (z.1, z.0, z.2) }
 
 pub rolled_fits : {p : Plane} → FitsPlane p → FitsPlane (rolled_plane p)
 unfolding rolled_plane

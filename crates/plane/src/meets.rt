@@ -37,6 +37,7 @@ fn determinant_of(p: Plane, q: Plane, r: Plane) -> i64
 
 impl Plane {
     /// The plane with its offset in the place of the first slope.
+    #[tactic(auto, using(crate::proofs::Ranges::made), unfolding(crate::specs::Cramer::offset_first))]
     fn with_offset_first(self) -> Plane
         requires { FitsPlane self }
         ensures value { result ≡ offset_first self }

@@ -21,6 +21,7 @@ impl Plane {
     }
 
     /// The plane moved by a step, if it is then in range.
+    #[tactic(auto, using(crate::proofs::Invariance::moved_together))]
     pub fn moved(self, t: Shift) -> Option<Plane>
         requires plane { FitsPlane self }
         requires shift { FitsShift t }
@@ -31,6 +32,7 @@ impl Plane {
     }
 
     /// The plane mirrored at x = 0.
+    #[tactic(auto, using(crate::proofs::Ranges::made, crate::proofs::Invariance::mirrored_together), unfolding(crate::specs::Moves::mirrored_plane))]
     pub fn mirrored(self) -> Plane
         requires { FitsPlane self }
         ensures value { result ≡ mirrored_plane self }
@@ -41,6 +43,7 @@ impl Plane {
     }
 
     /// The plane with x and y exchanged.
+    #[tactic(auto, using(crate::proofs::Ranges::made, crate::proofs::Invariance::swapped_together), unfolding(crate::specs::Moves::swapped_plane))]
     pub fn swapped(self) -> Plane
         requires { FitsPlane self }
         ensures value { result ≡ swapped_plane self }
@@ -55,6 +58,7 @@ impl Plane {
     }
 
     /// The plane turned from x to y to z to x.
+    #[tactic(auto, using(crate::proofs::Ranges::made, crate::proofs::Invariance::rolled_together), unfolding(crate::specs::Moves::rolled_plane))]
     pub fn rolled(self) -> Plane
         requires { FitsPlane self }
         ensures value { result ≡ rolled_plane self }

@@ -1,6 +1,6 @@
 //! Whether two planes lie in the same one.
 
-ghost use Rattle.std.specs.Prelude.{◌≡◌, Decides};
+ghost use Rattle.std.specs.Prelude.{◌≡◌, ◌↔◌, IsTrue};
 ghost use Rattle.arith.specs.Bounds.{Short};
 ghost use Rattle.plane.specs.Limits.{FitsPlane, along_limit};
 ghost use Rattle.plane.specs.Planes.{along, Coincide};
@@ -37,7 +37,7 @@ impl Plane {
     fn is_in_ratio(self, r: Plane) -> bool
         requires p { FitsPlane self }
         requires r { FitsPlane r }
-        ensures { Decides result (InRatio self r) }
+        ensures { IsTrue result ↔ InRatio self r }
     {
         r.times(self.along(self)) == self.times(self.along(r))
     }

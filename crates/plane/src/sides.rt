@@ -1,6 +1,6 @@
 //! Planes in range, and on which side of a plane a place is.
 
-ghost use Rattle.std.specs.Prelude.{◌≡◌, Decides};
+ghost use Rattle.std.specs.Prelude.{◌≡◌, ◌↔◌, IsTrue};
 ghost use Rattle.arith.specs.Bounds.{Short};
 ghost use Rattle.plane.specs.Limits.{FitsPlane, Gentle, IfFits, Sloped, SmallPlace, coordinate_limit, weight_limit};
 ghost use Rattle.plane.specs.Planes.{height, side, turned, weight};
@@ -10,7 +10,7 @@ use std::cmp::Ordering;
 
 /// Whether the number is from -limit to limit.
 fn within(n: i64, limit: u64) -> bool
-    ensures { Decides result (Short n limit) }
+    ensures { IsTrue result ↔ Short n limit }
 {
     n.unsigned_abs() <= limit
 }
@@ -32,21 +32,21 @@ impl Plane {
 
     /// Whether the plane is in range.
     fn is_in_range(self) -> bool
-        ensures { Decides result (FitsPlane self) }
+        ensures { IsTrue result ↔ FitsPlane self }
     {
         self.is_gentle() && within(self.d, OFFSET_LIMIT) && self.is_sloped()
     }
 
     /// Whether the slopes are in range.
     fn is_gentle(self) -> bool
-        ensures { Decides result (Gentle self) }
+        ensures { IsTrue result ↔ Gentle self }
     {
         within(self.a, SLOPE_LIMIT) && within(self.b, SLOPE_LIMIT) && within(self.c, SLOPE_LIMIT)
     }
 
     /// Whether the slopes are not all 0.
     fn is_sloped(self) -> bool
-        ensures { Decides result (Sloped self) }
+        ensures { IsTrue result ↔ Sloped self }
     {
         self.a != 0 || self.b != 0 || self.c != 0
     }

@@ -1,6 +1,6 @@
 -- What the stack machine does, before any memory: the words of a shape make that shape, and no other.
 --     words_make, made_of, coded_makes               the words of a shape make it
---     makes_one, words_apart, coded_is, shape_words  and no other
+--     makes_one, words_apart, shape_words            and no other
 --     makes_more, makes_all, makes_fit               one step further, at the end, and each step in range
 use Rattle.std.proofs.Common.{◌≡◌, ℕ, zero, suc, ◌+◌, ◌<◌, ◌≤◌, List, [], ◌∷◌, ◌++◌, length, get_or, drop, sym, refl, ap, ◌∙◌, subst, append_assoc, arith}
 use Rattle.std.proofs.lemmas.List.{append-nil, drop_more, drop_all}
@@ -84,6 +84,3 @@ made_of ws s f e = subst (λ (l : List ℕ). Makes s l []) (sym e) (words_make s
 
 pub coded_makes : (ws : List ℕ) (c : Coded ws) → Makes c.shape ws []
 coded_makes ws c = made_of ws c.shape c.fits c.is
-
-pub coded_is : (ws : List ℕ) (c : Coded ws) (s : Shape) → Fits s → ws ≡ words s → c.shape ≡ s
-coded_is ws c s f e = words_apart c.shape s c.fits f (sym c.is ∙ e)

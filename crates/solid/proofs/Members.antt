@@ -1,10 +1,10 @@
 -- What stands in a list.
 --     has_none, has_here, has_there, has_either      in no list, at the front, behind it, and which of the two
 --     has_left, has_right, has_part                  in an append, from a part and back
---     at_read, has_read, at_is                       what is read at a number
+--     at_read, has_read                              what is read at a number
 --     has_map, map_has                               in a list whose elements are changed
 --     each_of                                        what holds of all in a list holds of each
-use Rattle.std.proofs.Common.{◌≡◌, ℕ, zero, suc, ◌<◌, ◌⊎◌, List, [], ◌∷◌, ◌++◌, map, length, get_or, sym, refl, ◌∙◌, subst, inl, inr, arith}
+use Rattle.std.proofs.Common.{◌≡◌, ℕ, zero, suc, ◌<◌, ◌⊎◌, List, [], ◌∷◌, ◌++◌, map, length, get_or, sym, refl, subst, inl, inr, arith}
 use Rattle.std.proofs.lemmas.List.{get_or_default}
 use Rattle.std.specs.List.{AllByRecursion}
 use Rattle.solid.specs.Shapes.{At, Has}
@@ -48,10 +48,6 @@ module _ {A : Type 0} where
 
   pub has_read : (xs : List A) (n : ℕ) (d : A) → n < length xs → Has xs (get_or xs n d)
   has_read xs n d h = (n, at_read xs n d h)
-
-  -- and what stands at n is what is read there
-  pub at_is : (xs : List A) (n : ℕ) (x d : A) → At xs n x → get_or xs n d ≡ x
-  at_is xs n x d k = get_or_default xs n d x k.0 ∙ k.1
 
 module _ {A B : Type 0} (f : A → B) where
   pub has_map : (x : A) (xs : List A) → Has xs x → Has (map f xs) (f x)

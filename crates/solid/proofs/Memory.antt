@@ -1,11 +1,18 @@
 -- Words in memory that stand for the shapes on a stack, by any relation R of words and shapes.
+--     bit_byte                                       a value as the code writes it
 --     stacked_length                                 how many there are
 --     kept, pushed                                   what a write leaves and adds
 --     at_joint                                       what a step that joins two makes of them
-use Rattle.std.proofs.Common.{◌≡◌, ℕ, suc, ◌+◌, ◌<◌, ◌≤◌, ◌≢◌, List, [], ◌∷◌, length, set, sym, ap, ◌∙◌, subst, add-one, arith, get_or-set_other, get_or-set_same}
+use Rattle.std.proofs.Common.{◌≡◌, Bool, true, false, ℕ, suc, ◌+◌, ◌<◌, ◌≤◌, ◌≢◌, List, [], ◌∷◌, length, set, refl, sym, ap, ◌∙◌, subst, add-one, arith, get_or-set_other, get_or-set_same}
+use mir.Val.{bool_byte}
 use Rattle.solid.specs.declared.types.Step.{Step}
 use Rattle.solid.specs.Shapes.{Shape}
-use Rattle.solid.specs.Stacks.{Stacked, after, taken, Enough}
+use Rattle.solid.specs.Stacks.{bit, Stacked, after, taken, Enough}
+
+-- a bit, as the code makes it
+pub bit_byte : (x : Bool) → bool_byte x ≡ bit x
+bit_byte true = refl
+bit_byte false = refl
 
 module _ (R : ℕ → Shape → Type 0) where
   pub stacked_length : (st : List Shape) (vs : List ℕ) (n : ℕ) → Stacked R st vs n → length st ≡ n

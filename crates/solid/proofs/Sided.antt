@@ -1,12 +1,11 @@
 -- Below and on, read from the side.
-use Rattle.std.proofs.Common.{◌≡◌, Bool, true, false, cond, ℤ, pos, refl, sym, ap, ◌∙◌, arith}
+use Rattle.std.proofs.Common.{◌≡◌, Bool, true, false, cond, ℤ, pos, refl, sym, arith}
 use denote.Enum.Bare.{sameb}
 use lib.Signed.{lt_z}
 use Rattle.std.proofs.lemmas.Int.{ints}
 use Rattle.plane.specs.contracts.types.Side.{the_type}
 use Rattle.plane.specs.declared.types.Plane.{Plane}
 use Rattle.plane.specs.declared.types.Place.{Place}
-use Rattle.plane.specs.declared.types.Side.{Side}
 use Rattle.plane.specs.declared.types.Side.TheVariants.{Below, On, Above}
 use Rattle.plane.specs.Planes.{same_z, height, below, on, side}
 
@@ -24,11 +23,12 @@ never_both : (h : ℤ) → lt_z h (pos 0) ≡ true → same_z h (pos 0) ≡ fals
 unfolding same_z
 never_both h e = grind (arith, ints)
 
-module _ (p : Plane) (q : Place) where
-  pub below-side : {s : Side} → s ≡ side p q → sameb the_type s Below ≡ below p q
-  unfolding side
-  below-side e = ap (λ (s : Side). sameb the_type s Below) e ∙ below_cond (below p q) (on p q)
+pub below-side : (p : Plane) (q : Place) → sameb the_type (side p q) Below ≡ below p q
+unfolding side
+below-side p q = below_cond (below p q) (on p q)
 
-  pub on-side : {s : Side} → s ≡ side p q → sameb the_type s On ≡ on p q
-  unfolding side below on
-  on-side e = ap (λ (s : Side). sameb the_type s On) e ∙ on_cond (below p q) (on p q) (never_both (height p q))
+pub on-side : (p : Plane) (q : Place) → sameb the_type (side p q) On ≡ on p q
+unfolding side below on
+on-side p q = on_cond (below p q) (on p q) (never_both (height p q))
+
+pub ruleset sides = (below-side, on-side)

@@ -2,14 +2,13 @@
 --     off_each, off_all, on_one, one_on              on_some as said of each plane or of one
 --     on_some-append                                 on some plane of an append
 --     below_each, below_all                          all_below as said of each plane
---     clear_off, off_clear                           Clear as real and on_some
-use Rattle.std.proofs.Common.{◌≡◌, ◌<◌, true, false, ◌||◌, List, [], ◌∷◌, ◌++◌, sym, refl, ap, ◌∙◌, subst, inl, inr}
+use Rattle.std.proofs.Common.{◌≡◌, true, false, ◌||◌, List, [], ◌∷◌, ◌++◌, sym, refl, ap, ◌∙◌, subst, inl, inr}
 use Rattle.std.proofs.Math.Bool.{or_assoc}
 use Rattle.std.proofs.lemmas.Bool.{false≢true, or_cases, or_parts, or_from, or_left, or_right, and_parts, and_from}
 use Rattle.plane.specs.declared.types.Plane.{Plane}
 use Rattle.plane.specs.declared.types.Place.{Place}
 use Rattle.plane.specs.Planes.{below, on}
-use Rattle.solid.specs.Shapes.{Shape, planes, Has, Clear}
+use Rattle.solid.specs.Shapes.{Has}
 use Rattle.solid.specs.Models.{all_below}
 use Rattle.solid.specs.Examples.{on_some}
 use Rattle.solid.proofs.Members.{has_none, has_here, has_there, has_either}
@@ -62,10 +61,3 @@ module _ (q : Place) where
   unfolding all_below
   below_all [] f = refl
   below_all (p ∷ ps) f = and_from (below p q) (all_below ps q) (f p (has_here p ps)) (below_all ps (λ r h. f r (has_there p r ps h)))
-
--- clear of a shape's planes: real and on none of them
-pub clear_off : (s : Shape) (q : Place) → Clear s q → on_some (planes s) q ≡ false
-clear_off s q c = off_all q (planes s) c.off
-
-pub off_clear : (s : Shape) (q : Place) → 0 < q.w → on_some (planes s) q ≡ false → Clear s q
-off_clear s q r e = record { real = r; off = off_each q (planes s) e }

@@ -1,8 +1,8 @@
 -- A shape's value, its planes and its words.
 --     by_same                                        the value depends on what is said of the shape's planes alone
 --     by_with, planes_with                           the value and the planes of a shape with changed planes
---     words-length, words_few, planes_some           how many words and planes there are
-use Rattle.std.proofs.Common.{◌≡◌, ℕ, ◌+◌, ◌*◌, ◌<◌, Bool, not, ◌&&◌, ◌||◌, List, [], ◌∷◌, ◌++◌, map, length, sym, refl, ◌∙◌, ap₂, arith, length-append}
+--     words-length                                   how many words and planes there are
+use Rattle.std.proofs.Common.{◌≡◌, ℕ, ◌+◌, ◌*◌, Bool, not, ◌&&◌, ◌||◌, List, [], ◌∷◌, ◌++◌, map, length, sym, refl, ◌∙◌, ap₂, arith, length-append}
 use Rattle.std.proofs.lemmas.List.{map-append}
 use Rattle.plane.specs.declared.types.Plane.{Plane}
 use Rattle.solid.specs.Shapes.{Shape, half, both, either, without, by, planes, with_planes, Has}
@@ -52,9 +52,3 @@ words-length (half p) = refl
 words-length (both s t) = joint_length (planes s) (planes t) (words s) (words t) _ (words-length s) (words-length t)
 words-length (either s t) = joint_length (planes s) (planes t) (words s) (words t) _ (words-length s) (words-length t)
 words-length (without s t) = joint_length (planes s) (planes t) (words s) (words t) _ (words-length s) (words-length t)
-
-pub words_few : (s : Shape) → length (words s) < 2 * length (planes s)
-words_few s = omega (arith, words-length s)
-
-pub planes_some : (s : Shape) → 0 < length (planes s)
-planes_some s = omega (arith, words-length s)

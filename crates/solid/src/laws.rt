@@ -5,6 +5,7 @@ ghost use Rattle.solid.specs.Laws.{NothingThere, MovesRight, OnePlace};
 ghost use Rattle.solid.specs.Examples.{examples, AllTold};
 
 /// That the laws hold.
+#[tactic(auto, using(crate::proofs::Counts::nothing_there, crate::proofs::Carried::moves_right, crate::proofs::Carried::one_place))]
 pub fn laws_hold() -> bool
     ensures told { result ≡ true }
     ensures nothing_there { NothingThere }
@@ -15,6 +16,7 @@ pub fn laws_hold() -> bool
 }
 
 /// How many examples there are; each is told as it says.
+#[tactic(auto, using(crate::proofs::Tables::all_told))]
 pub fn examples_hold() -> usize
     ensures count { result ≡ length examples }
     ensures told { AllTold examples }

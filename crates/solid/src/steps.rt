@@ -34,6 +34,8 @@ fn lower(n: u64, k: u64) -> i64
 }
 
 /// The plane of a number, whose digits are the slopes and the offset.
+// No `From`: neither type is of this crate.
+#[tactic(auto, unfolding(crate::specs::Steps::numbered_plane))]
 fn plane_of(n: u64) -> Plane
     ensures { result ≡ numbered_plane n }
 {
@@ -48,6 +50,7 @@ fn plane_of(n: u64) -> Plane
 }
 
 /// The number of a plane.
+#[tactic(auto, unfolding(crate::specs::Steps::plane_number))]
 fn number_of(p: Plane) -> u64
     requires plane { FitsPlane p }
     ensures value { result ≡ plane_number p }
@@ -64,6 +67,7 @@ impl From<u64> for Step {
     ghost from_gives = { λ w s. s ≡ step w };
 
     /// The step that a word means; each word means one.
+    #[tactic(auto, using(std::proofs::lemmas::Bool::Decides::nat_tests), unfolding(crate::specs::Steps::step))]
     fn from(w: u64) -> Step {
         match w {
             0 => Step::Both,
@@ -76,6 +80,8 @@ impl From<u64> for Step {
 
 impl Step {
     /// The word of the step.
+    // No `From`: a step out of range has no word.
+    #[tactic(auto, unfolding(crate::specs::Steps::word))]
     pub fn word(self) -> u64
         requires { FitsStep self }
         ensures { result ≡ word self }

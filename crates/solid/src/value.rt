@@ -47,7 +47,8 @@ fn in_walls(q: Place) -> bool
     walls().iter().all(|p| p.side_of(q) == Side::Below)
 }
 
-/// The values of the shapes on a stack at a place, the newest last, in the front of lent words.
+/// The values of the shapes on a stack at a place, the newest last, in the front of lent words, which are all the
+/// memory there is: 1 where the shape holds the place, and 0 where it doesn't.
 #[derive(Drop)]
 struct Values<'w> {
     words: &'w mut [u64],
@@ -58,7 +59,8 @@ impl Values<'_> {
     /// Puts a value on the stack.
     fn push(&mut self, value: bool)
         requires { self.old.top < length self.old.words.now }
-        ensures stack { (q : Place) (s : Shape) (st : List Shape) → value ≡ holds s q → StandsFor self.old q st → StandsFor self.new q (s ∷ st) }
+        ensures stack { (q : Place) (s : Shape) (st : List Shape) → value ≡ holds s q
+            → StandsFor self.old q st → StandsFor self.new q (s ∷ st) }
         ensures grows { self.new.top ≡ self.old.top + 1 }
         ensures room { length self.new.words.now ≡ length self.old.words.now }
     {
@@ -70,7 +72,8 @@ impl Values<'_> {
     fn pop(&mut self) -> bool
         requires some { 0 < self.old.top }
         requires room { self.old.top ≤ length self.old.words.now }
-        ensures stack { (q : Place) (s : Shape) (st : List Shape) → StandsFor self.old q (s ∷ st) → (result ≡ holds s q) × StandsFor self.new q st }
+        ensures stack { (q : Place) (s : Shape) (st : List Shape) → StandsFor self.old q (s ∷ st)
+            → (result ≡ holds s q) × StandsFor self.new q st }
         ensures shrinks { self.new.top + 1 ≡ self.old.top }
         ensures room { length self.new.words.now ≡ length self.old.words.now }
     {
@@ -83,7 +86,9 @@ impl Values<'_> {
         requires callable { F.IsAlwaysCallable op }
         requires some { 2 ≤ self.old.top }
         requires room { self.old.top ≤ length self.old.words.now }
-        ensures stack { (q : Place) (s t u : Shape) (st : List Shape) → ((v : Bool) → F.post op (holds s q) (holds t q) v → v ≡ holds u q) → StandsFor self.old q (t ∷ (s ∷ st)) → StandsFor self.new q (u ∷ st) }
+        ensures stack { (q : Place) (s t u : Shape) (st : List Shape)
+            → ((v : Bool) → F.post op (holds s q) (holds t q) v → v ≡ holds u q)
+            → StandsFor self.old q (t ∷ (s ∷ st)) → StandsFor self.new q (u ∷ st) }
         ensures shrinks { self.new.top + 1 ≡ self.old.top }
         ensures room { length self.new.words.now ≡ length self.old.words.now }
     {
@@ -103,15 +108,16 @@ impl Values<'_> {
     {
         match s {
             Step::Half(p) => self.push(p.side_of(q) == Side::Below),
-            Step::Both => self.join(|s, t| s && t),
-            Step::Either => self.join(|s, t| s || t),
-            Step::Without => self.join(|s, t| s && !t),
+            Step::Both => self.join(|a, b| a && b),
+            Step::Either => self.join(|a, b| a || b),
+            Step::Without => self.join(|a, b| a && !b),
         }
     }
 }
 
 impl Step {
     /// Whether the place is on the plane of the step, if it has one.
+    #[tactic(auto, using(crate::proofs::Sided::sides), unfolding(crate::specs::Examples::on_some))]
     fn meets(self, q: Place) -> bool
         requires fits { FitsStep self }
         requires place { SmallPlace q }

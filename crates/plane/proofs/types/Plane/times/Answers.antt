@@ -1,7 +1,10 @@
-use Rattle.arith.proofs.Sized.{is_num, is_mul, is_back}
+use Rattle.arith.proofs.Sized.{is_num, is_mul, is_back, is_fits}
 use Rattle.plane.specs.Ratios.{multiplied}
 use Rattle.plane.proofs.Ranges.{made}
 use Rattle.plane.proofs.types.Plane.times.Goals as goal
+
+pub overflow_mul-result-4 : goal.overflow_mul-result-4
+overflow_mul-result-4 c = is_fits (is_mul (is_num c.requires.k tt) (is_num c.requires.p.d tt)) tt
 
 pub returns : goal.returns
 unfolding multiplied

@@ -1,4 +1,4 @@
-use Rattle.std.proofs.Common.{sym, refl, ◌∙◌, subst, rules}
+use Rattle.std.proofs.Common.{sym, refl, subst, rules}
 use Rattle.solid.specs.declared.types.Step.{Step}
 use Rattle.solid.specs.Shapes.{half, both, either, without, by, holds}
 use Rattle.solid.specs.Stacks.{after, Stacked, ValuesAt}
@@ -10,7 +10,7 @@ pub returns-in-Half-clause-stack : goal.returns-in-Half-clause-stack
 unfolding holds by
 returns-in-Half-clause-stack c = λ st k.
     subst (λ (x : Step). Stacked (ValuesAt c.args.q) (after x st) c.push.new.self.words.now c.push.new.self.top) (sym c.in-Half.is)
-    (c.push.ensures.stack c.args.q (half c.in-Half.p) st (c.eq.ensures ∙ below-side _ _ c.side_of.ensures) k)
+    (c.push.ensures.stack c.args.q (half c.in-Half.p) st (search (rules, below-side c.in-Half.p c.args.q)) k)
 
 pub returns-in-Both-clause-stack : goal.returns-in-Both-clause-stack
 unfolding holds by

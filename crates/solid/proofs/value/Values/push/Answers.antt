@@ -1,6 +1,5 @@
 use Rattle.std.proofs.Common.{ap, ◌∙◌}
-use Rattle.solid.proofs.Joints.{bit_byte}
-use Rattle.solid.proofs.Memory.{pushed}
+use Rattle.solid.proofs.Memory.{bit_byte, pushed}
 use Rattle.solid.specs.Stacks.{ValuesAt, bit}
 use Rattle.solid.proofs.value.Values.push.Goals as goal
 
