@@ -9,6 +9,7 @@ use Rattle.solid.specs.Shapes.{Shape, box, planes, plane}
 use Rattle.solid.specs.Models.{Piece, Face, Model}
 use Rattle.solid.specs.Examples.{at}
 use Rattle.faces.specs.declared.types.Bounds.{Bounds}
+use Rattle.faces.specs.declared.types.Rectangle.TheInside.{Inside}
 
 abbrev pub block : ℤ → ℤ → ℤ → ℤ → ℤ → ℤ → Bounds
 block x0 x1 y0 y1 z0 z1 = record { x0 = x0; x1 = x1; y0 = y0; y1 = y1; z0 = z0; z1 = z1 }
@@ -104,3 +105,7 @@ pub record FitsFace (f : Face) : Type 0 where
   pub edges : AllByRecursion FitsPlane f.edges
   pub place : SmallPlace f.place
   pub corners : AllByRecursion SmallPlace f.corners
+
+-- a face as the code has it
+abbrev pub as_face : Inside → Face
+as_face r = record { plane = r.plane; edges = r.edges; place = r.place; corners = r.corners }

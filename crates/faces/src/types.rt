@@ -46,13 +46,14 @@ pub struct Rectangle {
 // Clauses see a face of a model.
 impl Model for Rectangle {
     ghost use Rattle.solid.specs.Models.{Face};
-    ghost use Rattle.faces.specs.Blocks.{FitsFace};
 
     ghost Value = { Face };
 
-    ghost view = { λ r. record { plane = r.plane; edges = r.edges; place = r.place; corners = r.corners } };
+    ghost use Rattle.faces.specs.Blocks.{as_face, FitsFace};
 
-    ghost invariant = { λ r. FitsFace (record { plane = r.plane; edges = r.edges; place = r.place; corners = r.corners }) };
+    ghost view = { as_face };
+
+    ghost invariant = { λ r. FitsFace (as_face r) };
 
     ghost inverse = { λ f. record { plane = f.plane; edges = f.edges; place = f.place; corners = f.corners } };
 }

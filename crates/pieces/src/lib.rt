@@ -19,7 +19,8 @@ use search::places::find;
 /// A place off the planes where the answers of two parts, joined, hold, if there is one.
 fn place_where<J: Join + Drop>(join: J, parts: &Parts<'_>, room: Room<'_>) -> Option<Place>
     requires { RoomFor parts.now room }
-    ensures { Found (Off (planes_of_two (shape_of parts.now.first) (shape_of parts.now.second))) (joined_in J.joined (shape_of parts.now.first) (shape_of parts.now.second)) result }
+    ensures { let s = shape_of parts.now.first in let t = shape_of parts.now.second in
+        Found (Off (planes_of_two s t)) (joined_in J.joined s t) result }
 {
     let Room { planes, lent, work } = room;
     let planes = gather_two(parts, planes);
@@ -29,7 +30,8 @@ fn place_where<J: Join + Drop>(join: J, parts: &Parts<'_>, room: Room<'_>) -> Op
 /// A place off the planes where two parts differ, if there is one.
 pub fn difference(parts: &Parts<'_>, room: Room<'_>) -> Option<Place>
     requires { RoomFor parts.now room }
-    ensures { Found (Off (planes_of_two (shape_of parts.now.first) (shape_of parts.now.second))) (in_one (shape_of parts.now.first) (shape_of parts.now.second)) result }
+    ensures { let s = shape_of parts.now.first in let t = shape_of parts.now.second in
+        Found (Off (planes_of_two s t)) (in_one s t) result }
 {
     place_where(Difference, parts, room)
 }
@@ -37,7 +39,8 @@ pub fn difference(parts: &Parts<'_>, room: Room<'_>) -> Option<Place>
 /// A place off the planes that two parts share, if there is one.
 pub fn overlap(parts: &Parts<'_>, room: Room<'_>) -> Option<Place>
     requires { RoomFor parts.now room }
-    ensures { Found (Off (planes_of_two (shape_of parts.now.first) (shape_of parts.now.second))) (in_two (shape_of parts.now.first) (shape_of parts.now.second)) result }
+    ensures { let s = shape_of parts.now.first in let t = shape_of parts.now.second in
+        Found (Off (planes_of_two s t)) (in_two s t) result }
 {
     place_where(Overlap, parts, room)
 }
