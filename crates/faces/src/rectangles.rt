@@ -26,7 +26,7 @@ fn turned_place(q: Place) -> Place
         x: q.z,
         y: q.x,
         z: q.y,
-        w: q.w,
+        ..q
     }
 }
 
@@ -69,7 +69,8 @@ impl Block {
         ]
     }
 
-    /// The faces that look toward more x and toward less.
+    /// The faces that look toward more x and toward less. Seen from outside, both go round counter-clockwise,
+    /// so the second goes the other way along y and z.
     #[tactic(auto, using(std::proofs::lemmas::Int::ints))]
     fn ends(self) -> [Rectangle; 2]
         ensures { result ≡ high_face self ∷ low_face self ∷ [] }
