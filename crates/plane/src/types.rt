@@ -1,7 +1,6 @@
 //! Planes and places, by value, and the largest numbers of a plane.
 //!
-//! A plane, a place or a shift is four or three plain numbers, in range or not: words and bytes from anybody,
-//! moves and products give any. So no type here has an invariant; a call that needs a range asks for it.
+//! They are plain numbers, in range or not: words, bytes and moves give any, so no type here has an invariant.
 
 /// The largest a, b or c of a plane.
 pub const SLOPE_LIMIT: u64 = 6;
