@@ -1,9 +1,9 @@
 -- A block is thick if it reaches further than where it begins, each way.
 --     way_thick, thick_way                          the test, and what it says of each way
---     cut_fits, left_fits                           what is left in the workshop is in range
+--     cut_fits                                      what is left in the workshop is in range
 --     squeezed                                      a place between two planes across a way
 --     below_inside, off_inside                      a place that is less far than the block reaches
-use Rattle.std.proofs.Common.{◌≡◌, ◌<◌, Bool, true, false, cond, ℤ, pos, ◌*ℤ◌, neg_ℤ, ◌≤ℤ◌, ◌<ℤ◌, IfSome, Some, None, sym, refl, ap, ◌∙◌, arith}
+use Rattle.std.proofs.Common.{◌≡◌, ◌<◌, true, false, ℤ, pos, ◌*ℤ◌, neg_ℤ, ◌≤ℤ◌, ◌<ℤ◌, sym, ap, ◌∙◌, arith}
 use lib.Signed.{lt_z}
 use Rattle.std.proofs.lemmas.Int.{ints, clamps}
 use Rattle.std.proofs.lemmas.Bool.{and_parts, and_from}
@@ -12,7 +12,7 @@ use Rattle.arith.proofs.Ring.{neg_*l}
 use Rattle.plane.specs.declared.types.Place.{Place}
 use Rattle.plane.specs.Planes.{same_z, below, on}
 use Rattle.faces.specs.declared.types.Bounds.{Bounds}
-use Rattle.faces.specs.Blocks.{low_end, high_end, cut, thick, left_of, Span, FitsBlock}
+use Rattle.faces.specs.Blocks.{low_end, high_end, cut, thick, Span, FitsBlock}
 use Rattle.faces.proofs.Ways.{Way, east, west, north, south, up, down, opp, first, second, toward, far, top, bot, bot-top, far-opp}
 use Rattle.faces.proofs.Sides.{below-far, on-far}
 use Rattle.plane.proofs.Tests.{lt_yes, lt_says}
@@ -58,15 +58,6 @@ cut_fits b h =
     let k = and_parts _ _ h in
     let l = and_parts _ _ k.1 in
     record { x = cut_span b.x0 b.x1 k.0; y = cut_span b.y0 b.y1 l.0; z = cut_span b.z0 b.z1 l.1 }
-
--- what is left, if anything
-pub left_fits : (b : Bounds) → IfSome (left_of b) FitsBlock
-unfolding left_of
-left_fits b = go (thick (cut b)) refl
-  where
-    go : (t : Bool) → thick (cut b) ≡ t → IfSome (cond t (Some (cut b)) None) FitsBlock
-    go true h = cut_fits b h
-    go false h = tt
 
 -- ---- places
 between : (u v f g h : ℤ) → u ≡ neg_ℤ h → g ≡ neg_ℤ f → f <ℤ v → g <ℤ h → u <ℤ v
