@@ -1,14 +1,20 @@
 -- What the code puts together from numbers is what the numbers make.
-use Rattle.std.proofs.Common.{◌≡◌, ℕ, ◌<◌, List, [], ◌∷◌, map, length, get_or, ℤ, sym, refl, ap, ◌∙◌, subst, arith}
+use Rattle.std.proofs.Common.{◌≡◌, ℕ, List, [], ◌∷◌, map, length, Some, sym, ap, ◌∙◌, subst, arith}
+use Rattle.std.specs.List.{AllByRecursion}
+use Rattle.std.specs.Iterator.{Yields}
+use Rattle.std.specs.Array.{list_steps, IsMapOf}
+use Rattle.std.specs.Fn.{Mut, Called}
+use Rattle.std.proofs.lemmas.List.{same_lists, length-map, get_or-map}
 use Rattle.plane.specs.declared.types.Plane.{Plane}
 use Rattle.plane.specs.declared.types.Place.{Place}
-use Rattle.solid.specs.Shapes.{At}
+use Rattle.plane.specs.Moves.{rolled_plane, rolled_place}
 use Rattle.solid.specs.Models.{Face}
+use Rattle.faces.specs.Blocks.{rolled_face}
 
-pub three : {A : Type 0} (f : ℤ → ℤ → ℤ → A) {i j k l m n : ℤ} → i ≡ l → j ≡ m → k ≡ n → f i j k ≡ f l m n
-three f {i} {j} {k} {l} {m} {n} p q r = ap (λ (v : ℤ). f v j k) p ∙ ap (λ (v : ℤ). f l v k) q ∙ ap (λ (v : ℤ). f l m v) r
+pub three : {A B : Type 0} (f : B → B → B → A) {i j k l m n : B} → i ≡ l → j ≡ m → k ≡ n → f i j k ≡ f l m n
+three {B = B} f {i} {j} {k} {l} {m} {n} p q r = ap (λ (v : B). f v j k) p ∙ ap (λ (v : B). f l v k) q ∙ ap (λ (v : B). f l m v) r
 
-pub six : {A : Type 0} (f : ℤ → ℤ → ℤ → ℤ → ℤ → ℤ → A) {i j k l m n o p q r s t : ℤ} →
+pub six : {A B : Type 0} (f : B → B → B → B → B → B → A) {i j k l m n o p q r s t : B} →
     i ≡ o → j ≡ p → k ≡ q → l ≡ r → m ≡ s → n ≡ t → f i j k l m n ≡ f o p q r s t
 six f {i} {j} {k} {l} {m} {n} {o} {p} {q} a b c d e g = three (λ u v w. f u v w l m n) a b c ∙ three (f o p q) d e g
 
@@ -25,19 +31,21 @@ parts {p} {r} {es} {fs} {q} {s} {cs} {ds} a b c d =
     ∙ ap (λ (x : Place). record { plane = r; edges = fs; place = x; corners = cs }) c
     ∙ ap (λ (x : List Place). record { plane = r; edges = fs; place = s; corners = x }) d
 
--- four in a list
-pub four_of : {A : Type 0} (xs : List A) (d : A) → length xs ≡ 4 → get_or xs 0 d ∷ get_or xs 1 d ∷ get_or xs 2 d ∷ get_or xs 3 d ∷ [] ≡ xs
-four_of [] d h = absurd (omega arith)
-four_of (a ∷ []) d h = absurd (omega arith)
-four_of (a ∷ b ∷ []) d h = absurd (omega arith)
-four_of (a ∷ b ∷ e ∷ []) d h = absurd (omega arith)
-four_of (a ∷ b ∷ e ∷ f ∷ []) d h = refl
-four_of (a ∷ b ∷ e ∷ f ∷ g ∷ xs) d h = absurd (omega arith)
+-- a face whose parts are turned
+pub turned_parts : {g f : Face} {p : Plane} {es : List Plane} {q : Place} {cs : List Place} → g ≡ f →
+    p ≡ rolled_plane g.plane → es ≡ map rolled_plane g.edges → q ≡ rolled_place g.place → cs ≡ map rolled_place g.corners →
+    ◌≡◌ {A = Face} (record { plane = p; edges = es; place = q; corners = cs }) (rolled_face f)
+unfolding rolled_face
+turned_parts h a b c d = parts a b c d ∙ ap rolled_face h
 
-pub changed : {A B : Type 0} (f : A → B) (xs : List A) (d : A) {p q r s : B} → length xs ≡ 4 →
-    p ≡ f (get_or xs 0 d) → q ≡ f (get_or xs 1 d) → r ≡ f (get_or xs 2 d) → s ≡ f (get_or xs 3 d) → p ∷ q ∷ r ∷ s ∷ [] ≡ map f xs
-changed f xs d {p} {q} {r} {s} h i j k l = cc (ap (map f) (four_of xs d h))
+-- ---- what `map` makes of an array
+-- each value that it comes to is one of the list
+pub each_item : {A : Type 0} (P : A → Type 0) (xs : List A) → AllByRecursion P xs → (ys t u : List A) (x : A) → Yields list_steps xs ys t → list_steps t (Some x) u → P x
+each_item P xs h [] t u x y s = (subst (AllByRecursion P) (y ∙ s) h).0
+each_item P xs h (z ∷ ys) t u x y s = each_item P y.0 (subst (AllByRecursion P) y.1 h).1 ys t u x y.2 s
 
--- what stands at a number that is known
-pub stands : {A : Type 0} (xs : List A) (n k : ℕ) (x : A) → k ≡ n → n < length xs → get_or xs n x ≡ x → At xs k x
-stands xs n k x e h i = subst (λ (m : ℕ). At xs m x) (sym e) (h, i)
+pub mapped : {F A B : Type 0} (g : Mut F (A × Unit {0}) B) (s : F) (f : A → B) (xs : List A) (ys : List B) (n : ℕ) (d : A) →
+    ((p q : F) (x : A) (y : B) → Called g p (x, tt) y q → y ≡ f x) → length xs ≡ n → IsMapOf g s xs ys n → ys ≡ map f xs
+mapped g s f xs ys n d h l m =
+    same_lists ys (map f xs) (m.long ∙ sym l ∙ sym (length-map xs f))
+    (λ k e i. let r = m.at k d e (omega (arith, m.long)) in h _ _ _ _ r.2 ∙ sym (get_or-map f xs k d e (omega (arith, m.long))))

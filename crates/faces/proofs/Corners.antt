@@ -20,7 +20,7 @@ use Rattle.solid.specs.Shapes.{Has, At}
 use Rattle.solid.specs.Models.{Face, Corner, RightCorners, none_above, leftward, next}
 use Rattle.solid.specs.Examples.{at}
 use Rattle.solid.proofs.Members.{map_has, has_map, each_of}
-use Rattle.faces.specs.declared.types.Block.{Block}
+use Rattle.faces.specs.declared.types.Bounds.{Bounds}
 use Rattle.faces.proofs.Ways.{Way, east, west, north, south, up, down, opp, first, second, toward, normal, far, top, bot, bot-top, far-opp, height-far, rim, rectangle, seen, Made}
 use Rattle.faces.proofs.Sides.{on-far}
 use Rattle.plane.proofs.Tests.{same_yes, same_says}
@@ -33,7 +33,7 @@ abbrev pick : Bool → Way → Way
 pick true g = g
 pick false g = opp g
 
-abbrev end : Bool → Block → Way → ℤ
+abbrev end : Bool → Bounds → Way → ℤ
 end true b g = top b g
 end false b g = bot b g
 
@@ -72,7 +72,7 @@ Under d g v = far g v ≤ℤ (d *ℤ pos v.w)
 not_above : (g : Way) (d : ℤ) (v : Place) → Under d g v → not (lt_z (pos 0) (height (toward g d) v)) ≡ true
 not_above g d v h = not_over (far g v) (d *ℤ pos v.w) (height (toward g d) v) (height-far g d v) h
 
-end_either : (s : Bool) (b : Block) (g : Way) → (end s b g ≡ top b g) ⊎ (end s b g ≡ bot b g)
+end_either : (s : Bool) (b : Bounds) (g : Way) → (end s b g ≡ top b g) ⊎ (end s b g ≡ bot b g)
 end_either true b g = inl refl
 end_either false b g = inr refl
 
@@ -80,7 +80,7 @@ ends_under : (f h t s u : ℤ) → u ≡ neg_ℤ s → h ≡ neg_ℤ f → u <�
 ends_under f h t s u i j k (inl e) = (omega (arith, ints), omega (arith, ints))
 ends_under f h t s u i j k (inr e) = (omega (arith, ints), omega (arith, ints))
 
-module _ (b : Block) (v : Place) (whole : v.w ≡ 1) where
+module _ (b : Bounds) (v : Place) (whole : v.w ≡ 1) where
   times_one : (n : ℤ) → n ≡ n *ℤ pos v.w
   unfolding one
   times_one n = sym (ap (λ (m : ℕ). n *ℤ pos m) whole ∙ *ℤ-one n)
@@ -100,19 +100,19 @@ module _ (b : Block) (v : Place) (whole : v.w ≡ 1) where
       (subst (λ (n : ℤ). far g v ≤ℤ n) (times_one (top b g)) u.0, subst (λ (n : ℤ). far (opp g) v ≤ℤ n) (times_one (top b (opp g))) u.1)
 
 -- the planes of an edge: those across the first way, and those across the second
-abbrev side : Block → Way → Bool → Plane
+abbrev side : Bounds → Way → Bool → Plane
 side b g s = toward (pick s g) (top b (pick s g))
 
-rim-first : (b : Block) (e : Way) (s : Bool) → Has (rim b e) (side b (first e) s)
+rim-first : (b : Bounds) (e : Way) (s : Bool) → Has (rim b e) (side b (first e) s)
 rim-first b e true = (0, (omega arith, refl))
 rim-first b e false = (1, (omega arith, refl))
 
-rim-second : (b : Block) (e : Way) (s : Bool) → Has (rim b e) (side b (second e) s)
+rim-second : (b : Bounds) (e : Way) (s : Bool) → Has (rim b e) (side b (second e) s)
 rim-second b e true = (2, (omega arith, refl))
 rim-second b e false = (3, (omega arith, refl))
 
 -- a place on an edge's plane is at that end
-pub record Mark (b : Block) (g : Way) (v : Place) (r : Plane) : Type 0 where
+pub record Mark (b : Bounds) (g : Way) (v : Place) (r : Plane) : Type 0 where
   pub which : Bool
   pub is : side b g which ≡ r
   pub far_is : far g v ≡ end which b g *ℤ pos v.w
@@ -120,7 +120,7 @@ pub record Mark (b : Block) (g : Way) (v : Place) (r : Plane) : Type 0 where
 far_neg : (f h t u w : ℤ) → u ≡ neg_ℤ t → h ≡ neg_ℤ f → h ≡ t *ℤ w → f ≡ u *ℤ w
 far_neg = solve 5 (λ f h t u w. neg_e w · u := neg_e t ⇒ con (pos 1) · h := neg_e f ⇒ con (negsuc 0) · h := t :* w ⇒ f := u :* w) refl
 
-mark : (b : Block) (g : Way) (s : Bool) (v : Place) → on (side b g s) v ≡ true → Mark b g v (side b g s)
+mark : (b : Bounds) (g : Way) (s : Bool) (v : Place) → on (side b g s) v ≡ true → Mark b g v (side b g s)
 mark b g true v h = record { which = true; is = refl; far_is = same_says (far g v) (top b g *ℤ pos v.w) (sym (on-far g (top b g) v) ∙ h) }
 mark b g false v h = record {
   which = false;
@@ -129,7 +129,7 @@ mark b g false v h = record {
       (same_says (far (opp g) v) (top b (opp g) *ℤ pos v.w) (sym (on-far (opp g) (top b (opp g)) v) ∙ h));
 }
 
-marked : (b : Block) (e : Way) (v : Place) (r : Plane) → Has (rim b e) r → on r v ≡ true → Mark b (first e) v r ⊎ Mark b (second e) v r
+marked : (b : Bounds) (e : Way) (v : Place) (r : Plane) → Has (rim b e) r → on r v ≡ true → Mark b (first e) v r ⊎ Mark b (second e) v r
 marked b e v =
     let f = first e in
     let g = second e in
@@ -154,7 +154,7 @@ unfolding one
 same_whole i j k q a b c = record { x = sym (*ℤ-one q.x ∙ a); y = sym (*ℤ-one q.y ∙ b); z = sym (*ℤ-one q.z ∙ c) }
 
 -- ---- the promise
-module _ (b : Block) (e : Way) (f : Face) (made : Made b e f) where
+module _ (b : Bounds) (e : Way) (f : Face) (made : Made b e f) where
   abbrev there : Bool → Bool → Place
   there s t = at (top b e) (end s b (first e)) (end t b (second e)) 1
 

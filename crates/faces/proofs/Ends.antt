@@ -16,7 +16,7 @@ use Rattle.plane.specs.Moves.{rolled_plane}
 use Rattle.plane.proofs.Ranges.{made}
 use Rattle.solid.specs.Shapes.{by, planes, solid, Has, just_below, just_above, ends}
 use Rattle.solid.specs.Models.{in_faces, all_below}
-use Rattle.faces.specs.declared.types.Block.{Block}
+use Rattle.faces.specs.declared.types.Bounds.{Bounds}
 use Rattle.faces.specs.Blocks.{as_shape, cut, thick, block_faces, high_face, low_face, rolled_face}
 use Rattle.faces.proofs.Ways.{Way, east, west, north, south, up, down, opp, first, second, toward, normal, far, top, bot, bot-top, top-cut, turned-toward, rim}
 use Rattle.faces.proofs.Sides.{on-far, on_at, below_same, below_opp, below_across, above_same, above_opp, above_across}
@@ -37,14 +37,14 @@ turned_twice : (p : Plane) → turned (turned p) ≡ p
 unfolding turned
 turned_twice p = made p (neg_ℤ-neg_ℤ p.a) (neg_ℤ-neg_ℤ p.b) (neg_ℤ-neg_ℤ p.c) (neg_ℤ-neg_ℤ p.d)
 
-pub faced : (b : Block) (p : Plane) → (Has (planes (solid (as_shape b))) p ⊎ Has (planes (solid (as_shape b))) (turned p)) → Faced p
+pub faced : (b : Bounds) (p : Plane) → (Has (planes (solid (as_shape b))) p ⊎ Has (planes (solid (as_shape b))) (turned p)) → Faced p
 faced b p (inl h) = let w = has_solid b p h in record { way = w.way; end = w.end; is = w.is }
 faced b p (inr h) =
     let w = has_solid b (turned p) h in
     record { way = opp w.way; end = neg_ℤ w.end; is = sym (turned-toward w.way w.end) ∙ ap turned w.is ∙ turned_twice p }
 
 -- ---- the face that looks a way
-pub in_faces_way : (b : Block) (e : Way) (d : ℤ) (q : Place) → in_faces (block_faces b) (toward e d) q ≡ cond (on (toward e (top b e)) q && all_below (rim b e) q) 1 0
+pub in_faces_way : (b : Bounds) (e : Way) (d : ℤ) (q : Place) → in_faces (block_faces b) (toward e d) q ≡ cond (on (toward e (top b e)) q && all_below (rim b e) q) 1 0
 unfolding in_faces block_faces high_face low_face rolled_face rolled_plane same_way same_z along
 in_faces_way b east d q = omega arith
 in_faces_way b west d q = omega arith
@@ -54,7 +54,7 @@ in_faces_way b up d q = omega arith
 in_faces_way b down d q = omega arith
 
 -- ---- the value just below and just above a place on a plane that looks a way
-module _ (b : Block) (e : Way) (d : ℤ) (q : Place) (real : 0 < q.w) (met : on (toward e d) q ≡ true) where
+module _ (b : Bounds) (e : Way) (d : ℤ) (q : Place) (real : 0 < q.w) (met : on (toward e d) q ≡ true) where
   pub exact : far e q ≡ d *ℤ pos q.w
   exact = same_says (far e q) (d *ℤ pos q.w) (sym (on-far e d q) ∙ met)
 

@@ -12,7 +12,7 @@ use Rattle.plane.specs.Planes.{same_z, on, along, same_way, turned}
 use Rattle.solid.specs.Shapes.{solid, planes, Has, ClearBut, ends}
 use Rattle.solid.specs.Models.{Face, Right, RightFaces, RightCorners, in_faces, all_below, Ours}
 use Rattle.solid.proofs.Members.{has_none, map_has, each_of}
-use Rattle.faces.specs.declared.types.Block.{Block}
+use Rattle.faces.specs.declared.types.Bounds.{Bounds}
 use Rattle.faces.specs.Blocks.{as_shape, cut, thick, left_of, model_of, block_faces, rolled_back, FitsBlock, FitsFace}
 use Rattle.faces.proofs.Ways.{Way, east, west, north, south, up, down, ways, opp, first, second, toward, normal, far, top, bot, bot-top, far-opp, face_at, faces_ways, Made, made}
 use Rattle.faces.proofs.Sides.{below-far, on-far}
@@ -26,7 +26,7 @@ use Rattle.faces.proofs.Ends.{faced, in_faces_way, ends_once, ends_none}
 use Rattle.faces.proofs.Corners.{right_corners}
 
 -- ---- ranges
-pub face_fits : (b : Block) → FitsBlock b → (e : Way) → FitsFace (face_at b e)
+pub face_fits : (b : Bounds) → FitsBlock b → (e : Way) → FitsFace (face_at b e)
 unfolding face_at
 face_fits b f east = high_fits b f
 face_fits b f west = low_fits b f
@@ -47,7 +47,7 @@ same_self : (e : Way) → same_way (normal e) (normal e) ≡ true
 unfolding same_way same_z along
 same_self = all_ways_each (λ e. same_way (normal e) (normal e)) refl
 
-module _ (b : Block) (fits : FitsBlock b) (e : Way) (f : Face) (m : Made b e f) where
+module _ (b : Bounds) (fits : FitsBlock b) (e : Way) (f : Face) (m : Made b e f) where
   abbrev q : Place
   q = f.place
 
@@ -85,7 +85,7 @@ module _ (b : Block) (fits : FitsBlock b) (e : Way) (f : Face) (m : Made b e f) 
       all_ways_each t (all_ways_split e t ∙ and_from (t e) _ (or_left _ _ (same_self e)) (and_from (t (opp e)) _ (o (opp e) a)
       (each_across e t (o (first e) w.0, o (opp (first e)) w.1, o (second e) w.2, o (opp (second e)) w.3))))
 
-  face_clear : (a : Block) → b ≡ cut a → ClearBut (solid (as_shape a)) f.plane f.place
+  face_clear : (a : Bounds) → b ≡ cut a → ClearBut (solid (as_shape a)) f.plane f.place
   unfolding same_way along
   face_clear a i = record {
     real = omega (arith, scale);
@@ -93,24 +93,24 @@ module _ (b : Block) (fits : FitsBlock b) (e : Way) (f : Face) (m : Made b e f) 
     off_others = λ r h o.
         let w = has_solid a r h in
         let g = w.way in
-        let n : top b g ≤ℤ w.end = subst (λ (c : Block). top c g ≤ℤ w.end) (sym i) w.room in
+        let n : top b g ≤ℤ w.end = subst (λ (c : Bounds). top c g ≤ℤ w.end) (sym i) w.room in
         elim (or_cases _ _ (alike_or_below g)) [
           | inl s ↦ inl (ap₂ same_way m.plane (sym w.is) ∙ s)
           | inr s ↦ absurd (true≢false (sym o ∙ subst (λ (p : Plane). on p q ≡ false) w.is (off_inside (top b g) g q (lt_says _ _ (sym (below-far g (top b g) q) ∙ s)) w.end n)))
         ];
   }
 
-  face_ours : (a : Block) → b ≡ cut a → Ours (solid (as_shape a)) (f.plane ∷ f.edges)
+  face_ours : (a : Bounds) → b ≡ cut a → Ours (solid (as_shape a)) (f.plane ∷ f.edges)
   face_ours a i p h =
       let l = e ∷ first e ∷ opp (first e) ∷ second e ∷ opp (second e) ∷ [] in
       let k = map_has (λ g. toward g (top b g)) p l (subst (λ (ps : List Plane). Has ps p) (ap₂ ◌∷◌ m.plane m.edges) h) in
-      inl (subst (λ (r : Plane). Has (planes (solid (as_shape a))) r) (ap (λ (c : Block). toward k.0 (top c k.0)) (sym i) ∙ k.2) (solid_has a k.0))
+      inl (subst (λ (r : Plane). Has (planes (solid (as_shape a))) r) (ap (λ (c : Bounds). toward k.0 (top c k.0)) (sym i) ∙ k.2) (solid_has a k.0))
 
 -- ---- the promise
-only_face : (b : Block) (P : Face → Type 0) → ((e : Way) → P (face_at b e)) → (f : Face) → Has (block_faces b) f → P f
+only_face : (b : Bounds) (P : Face → Type 0) → ((e : Way) → P (face_at b e)) → (f : Face) → Has (block_faces b) f → P f
 only_face b P p f h = let k = map_has (face_at b) f ways (subst (λ (l : List Face). Has l f) (faces_ways b) h) in subst P k.2 (p k.0)
 
-module _ (b : Block) where
+module _ (b : Bounds) where
   module _ (some : thick (cut b) ≡ true) where
     fits : FitsBlock (cut b)
     fits = cut_fits b some

@@ -14,7 +14,7 @@ use Rattle.plane.specs.Planes.{below, on}
 use Rattle.solid.specs.Shapes.{box, holds, planes, solid, Has, Clear}
 use Rattle.solid.specs.Models.{Piece, RightPieces, in_pieces, all_below, Ours}
 use Rattle.solid.proofs.Members.{has_none, map_has, each_of}
-use Rattle.faces.specs.declared.types.Block.{Block}
+use Rattle.faces.specs.declared.types.Bounds.{Bounds}
 use Rattle.faces.specs.Blocks.{as_shape, cut, thick, block_piece}
 use Rattle.faces.proofs.Ways.{Way, east, west, north, south, up, down, ways, opp, toward, far, top, bot, top-cut, planes-ways}
 use Rattle.faces.proofs.Sides.{below-far}
@@ -25,7 +25,7 @@ use Rattle.faces.proofs.Thickness.{way_thick, thick_way, cut_fits, squeezed, Sho
 use Rattle.faces.proofs.Ranges.{piece_small}
 
 -- below the planes that are left
-abbrev pub under : Block → Place → Way → Bool
+abbrev pub under : Bounds → Place → Way → Bool
 under b q e = below (toward e (top b e)) q
 
 times_cond : (t : Bool) (m n w : ℤ) → cond t (m *ℤ w) (n *ℤ w) ≡ cond t m n *ℤ w
@@ -43,20 +43,20 @@ module _ (q : Place) (real : 0 < q.w) where
       let w = pos q.w in
       ap₂ ◌&&◌ (below-far e n q) (below-far e m q) ∙ lt_min (far e q) (m *ℤ w) (n *ℤ w) ∙ ap (λ t. lt_z (far e q) t) (min_scaled m n) ∙ sym (below-far e (int_min m n) q)
 
-  pub holds-solid : (b : Block) → holds (solid (as_shape b)) q ≡ all_ways (under (cut b) q)
+  pub holds-solid : (b : Bounds) → holds (solid (as_shape b)) q ≡ all_ways (under (cut b) q)
   unfolding holds
   holds-solid b =
       by-solid (λ p. below p q) b
       ∙ all_ways_same (λ e. below (toward e (pos reach)) q && below (toward e (top b e)) q) (under (cut b) q)
       (λ e. below_both e (top b e) (pos reach) ∙ ap (λ t. below (toward e t) q) (sym (top-cut b e)))
 
-  pub solid-thick : (b : Block) → holds (solid (as_shape b)) q ≡ true → thick (cut b) ≡ true
+  pub solid-thick : (b : Bounds) → holds (solid (as_shape b)) q ≡ true → thick (cut b) ≡ true
   solid-thick b h =
       let u = all_ways_each (under (cut b) q) (sym (holds-solid b) ∙ h) in
       let s = λ (e : Way). squeezed (cut b) q real e (u e) (u (opp e)) in
       way_thick (cut b) east (s east) (s north) (s up)
 
-pub below_planes : (b : Block) (q : Place) → all_below (planes (as_shape b)) q ≡ all_ways (under b q)
+pub below_planes : (b : Bounds) (q : Place) → all_below (planes (as_shape b)) q ≡ all_ways (under b q)
 unfolding planes box all_below
 below_planes b q = sym (all_ways_split east (under b q))
 
@@ -64,7 +64,7 @@ below_planes b q = sym (all_ways_split east (under b q))
 swap_neg : (m n : ℤ) → neg_ℤ (m +ℤ n) ≡ neg_ℤ n +ℤ neg_ℤ m
 swap_neg m n = omega (arith, ints)
 
-far_middle : (b : Block) (e : Way) → far e (block_piece b).place ≡ bot b e +ℤ top b e
+far_middle : (b : Bounds) (e : Way) → far e (block_piece b).place ≡ bot b e +ℤ top b e
 unfolding block_piece
 far_middle b east = refl
 far_middle b west = swap_neg b.x0 b.x1
@@ -77,7 +77,7 @@ pub half_way : (f m n : ℤ) → f ≡ m +ℤ n → m <ℤ n → f <ℤ (n *ℤ 
 half_way f m n e h = omega (arith, ints)
 
 -- ---- the promise
-module _ (b : Block) where
+module _ (b : Bounds) where
   module _ (some : thick (cut b) ≡ true) where
     inner : (e : Way) → ShortOf (top (cut b) e) e (block_piece (cut b)).place
     unfolding block_piece

@@ -13,7 +13,7 @@ use Rattle.plane.proofs.Ranges.{rolled_fits}
 use Rattle.solid.specs.Shapes.{plane, planes, box}
 use Rattle.solid.specs.Models.{Face}
 use Rattle.solid.specs.Examples.{at}
-use Rattle.faces.specs.declared.types.Block.{Block}
+use Rattle.faces.specs.declared.types.Bounds.{Bounds}
 use Rattle.faces.specs.Blocks.{block_piece, high_face, low_face, rolled_face, rolled_back, Span, FitsBlock, FitsFace}
 use Rattle.faces.proofs.Ways.{Way, east, west, north, south, up, down, toward, normal, top}
 use Rattle.faces.proofs.Sixfold.{all_ways_each}
@@ -42,7 +42,7 @@ level a b c d h s = record {
 unit : (e : Way) → nat_abs (normal e).a + nat_abs (normal e).b + nat_abs (normal e).c ≡ 1
 unit e = eqb-true _ 1 (all_ways_each (λ f. eqb (nat_abs (normal f).a + nat_abs (normal f).b + nat_abs (normal f).c) 1) refl e)
 
-module _ (b : Block) (f : FitsBlock b) where
+module _ (b : Bounds) (f : FitsBlock b) where
   top_short : (e : Way) → Short (top b e) reach
   top_short east = high_short b.x0 b.x1 f.x
   top_short west = short_neg (low_short b.x0 b.x1 f.x)
@@ -65,7 +65,7 @@ middle i j k l m n = record { x = sum_short i j; y = sum_short k l; z = sum_shor
 corner : {i j k : ℤ} → Short i reach → Short j reach → Short k reach → SmallPlace (at i j k 1)
 corner i j k = record { x = short_more coordinate_limit i tt; y = short_more coordinate_limit j tt; z = short_more coordinate_limit k tt; w = lit≤ tt; real = lit< tt }
 
-module _ (b : Block) (f : FitsBlock b) where
+module _ (b : Bounds) (f : FitsBlock b) where
   x0 : Short b.x0 reach
   x0 = low_short b.x0 b.x1 f.x
 

@@ -1,9 +1,9 @@
 -- A block is thick if it reaches further than where it begins, each way.
 --     way_thick, thick_way                          the test, and what it says of each way
---     cut_fits, left_fits                           what is left in the workshop is in range
+--     cut_fits                                      what is left in the workshop is in range
 --     squeezed                                      a place between two planes across a way
 --     below_inside, off_inside                      a place that is less far than the block reaches
-use Rattle.std.proofs.Common.{◌≡◌, ◌<◌, Bool, true, false, cond, ℤ, pos, ◌*ℤ◌, neg_ℤ, ◌≤ℤ◌, ◌<ℤ◌, IfSome, Some, None, sym, refl, ap, ◌∙◌, arith}
+use Rattle.std.proofs.Common.{◌≡◌, ◌<◌, true, false, ℤ, pos, ◌*ℤ◌, neg_ℤ, ◌≤ℤ◌, ◌<ℤ◌, sym, ap, ◌∙◌, arith}
 use lib.Signed.{lt_z}
 use Rattle.std.proofs.lemmas.Int.{ints, clamps}
 use Rattle.std.proofs.lemmas.Bool.{and_parts, and_from}
@@ -11,8 +11,8 @@ use Rattle.arith.proofs.Order.{mul_le}
 use Rattle.arith.proofs.Ring.{neg_*l}
 use Rattle.plane.specs.declared.types.Place.{Place}
 use Rattle.plane.specs.Planes.{same_z, below, on}
-use Rattle.faces.specs.declared.types.Block.{Block}
-use Rattle.faces.specs.Blocks.{low_end, high_end, cut, thick, left_of, Span, FitsBlock}
+use Rattle.faces.specs.declared.types.Bounds.{Bounds}
+use Rattle.faces.specs.Blocks.{low_end, high_end, cut, thick, Span, FitsBlock}
 use Rattle.faces.proofs.Ways.{Way, east, west, north, south, up, down, opp, first, second, toward, far, top, bot, bot-top, far-opp}
 use Rattle.faces.proofs.Sides.{below-far, on-far}
 use Rattle.plane.proofs.Tests.{lt_yes, lt_says}
@@ -25,10 +25,10 @@ turn : (m n : ℤ) → m <ℤ n → neg_ℤ n <ℤ neg_ℤ m
 turn m n h = omega (arith, ints)
 
 -- it is thick along a way
-abbrev pub Reaches : Block → Way → Type 0
+abbrev pub Reaches : Bounds → Way → Type 0
 Reaches b e = bot b e <ℤ top b e
 
-module _ (b : Block) where
+module _ (b : Bounds) where
   full : b.x0 <ℤ b.x1 → b.y0 <ℤ b.y1 → b.z0 <ℤ b.z1 → thick b ≡ true
   unfolding thick
   full x y z = and_from (lt_z b.x0 b.x1) _ (lt_yes _ _ x) (and_from (lt_z b.y0 b.y1) _ (lt_yes _ _ y) (lt_yes _ _ z))
@@ -52,27 +52,18 @@ module _ (b : Block) where
 cut_span : (m n : ℤ) → lt_z (low_end m) (high_end n) ≡ true → Span (low_end m) (high_end n)
 cut_span m n h = record { low = omega (arith, ints, clamps); thick = lt_says (low_end m) (high_end n) h; high = omega (arith, ints, clamps) }
 
-pub cut_fits : (b : Block) → thick (cut b) ≡ true → FitsBlock (cut b)
+pub cut_fits : (b : Bounds) → thick (cut b) ≡ true → FitsBlock (cut b)
 unfolding thick cut
 cut_fits b h =
     let k = and_parts _ _ h in
     let l = and_parts _ _ k.1 in
     record { x = cut_span b.x0 b.x1 k.0; y = cut_span b.y0 b.y1 l.0; z = cut_span b.z0 b.z1 l.1 }
 
--- what is left, if anything
-pub left_fits : (b : Block) → IfSome (left_of b) FitsBlock
-unfolding left_of
-left_fits b = go (thick (cut b)) refl
-  where
-    go : (t : Bool) → thick (cut b) ≡ t → IfSome (cond t (Some (cut b)) None) FitsBlock
-    go true h = cut_fits b h
-    go false h = tt
-
 -- ---- places
 between : (u v f g h : ℤ) → u ≡ neg_ℤ h → g ≡ neg_ℤ f → f <ℤ v → g <ℤ h → u <ℤ v
 between u v f g h a b k l = omega (arith, ints)
 
-pub squeezed : (b : Block) (q : Place) → 0 < q.w → (e : Way) → below (toward e (top b e)) q ≡ true → below (toward (opp e) (top b (opp e))) q ≡ true → Reaches b e
+pub squeezed : (b : Bounds) (q : Place) → 0 < q.w → (e : Way) → below (toward e (top b e)) q ≡ true → below (toward (opp e) (top b (opp e))) q ≡ true → Reaches b e
 squeezed b q real e h k =
     let w = pos q.w in
     let i = lt_says (far e q) (top b e *ℤ w) (sym (below-far e (top b e) q) ∙ h) in

@@ -8,12 +8,12 @@ use Rattle.plane.specs.declared.types.Plane.{Plane}
 use Rattle.plane.specs.Limits.{reach}
 use Rattle.solid.specs.Shapes.{by, box, solid, workshop, planes, Has}
 use Rattle.solid.proofs.Members.{has_part, has_left, has_right, has_map, map_has}
-use Rattle.faces.specs.declared.types.Block.{Block}
+use Rattle.faces.specs.declared.types.Bounds.{Bounds}
 use Rattle.faces.specs.Blocks.{as_shape, cut}
 use Rattle.faces.proofs.Ways.{Way, east, west, north, south, up, down, ways, toward, top, top-cut}
 use Rattle.faces.proofs.Sixfold.{all_ways, all_ways_both}
 
-pub by-solid : (f : Plane → Bool) (b : Block) → by f (solid (as_shape b)) ≡ all_ways (λ e. f (toward e (pos reach)) && f (toward e (top b e)))
+pub by-solid : (f : Plane → Bool) (b : Bounds) → by f (solid (as_shape b)) ≡ all_ways (λ e. f (toward e (pos reach)) && f (toward e (top b e)))
 unfolding by solid workshop box
 by-solid f b = all_ways_both (λ e. f (toward e (pos reach))) (λ e. f (toward e (top b e)))
 
@@ -21,12 +21,12 @@ by-solid f b = all_ways_both (λ e. f (toward e (pos reach))) (λ e. f (toward e
 abbrev pub listed : (Way → ℤ) → List Plane
 listed t = map (λ e. toward e (t e)) ways
 
-solid-planes : (b : Block) → planes (solid (as_shape b)) ≡ listed (λ e. pos reach) ++ listed (top b)
+solid-planes : (b : Bounds) → planes (solid (as_shape b)) ≡ listed (λ e. pos reach) ++ listed (top b)
 unfolding planes solid workshop box
 solid-planes b = refl
 
 -- each looks some way, and leaves room for what of the block lies in the workshop
-pub record Wall (b : Block) (r : Plane) : Type 0 where
+pub record Wall (b : Bounds) (r : Plane) : Type 0 where
   pub way : Way
   pub end : ℤ
   pub room : top (cut b) way ≤ℤ end
@@ -38,7 +38,7 @@ min_left a b t e = omega (arith, ints, clamps)
 min_right : (a b t : ℤ) → t ≡ int_min a b → t ≤ℤ b
 min_right a b t e = omega (arith, ints, clamps)
 
-pub has_solid : (b : Block) (r : Plane) → Has (planes (solid (as_shape b))) r → Wall b r
+pub has_solid : (b : Bounds) (r : Plane) → Has (planes (solid (as_shape b))) r → Wall b r
 has_solid b r h = elim (has_part r (listed (λ e. pos reach)) (listed (top b)) (subst (λ (l : List Plane). Has l r) (solid-planes b) h)) [
   | inl k ↦ let m = map_has (λ e. toward e (pos reach)) r ways k in record { way = m.0; end = pos reach; room = min_right (top b m.0) (pos reach) _ (top-cut b m.0); is = m.2 }
   | inr k ↦ let m = map_has (λ e. toward e (top b e)) r ways k in record { way = m.0; end = top b m.0; room = min_left (top b m.0) (pos reach) _ (top-cut b m.0); is = m.2 }
@@ -57,7 +57,7 @@ min_either : (a b t : ℤ) → t ≡ int_min a b → (t ≡ b) ⊎ (t ≡ a)
 min_either a b t e = by_lt_z b a (λ h. inl (omega (arith, ints, clamps))) (λ h. inr (omega (arith, ints, clamps)))
 
 -- the planes of what of the block lies in the workshop are among them
-pub solid_has : (b : Block) (e : Way) → Has (planes (solid (as_shape b))) (toward e (top (cut b) e))
+pub solid_has : (b : Bounds) (e : Way) → Has (planes (solid (as_shape b))) (toward e (top (cut b) e))
 solid_has b e = subst (λ (l : List Plane). Has l (toward e (top (cut b) e))) (sym (solid-planes b))
     (elim (min_either (top b e) (pos reach) (top (cut b) e) (top-cut b e)) [
       | inl h ↦ has_left _ (listed (λ f. pos reach)) (listed (top b)) (subst (λ (t : ℤ). Has (listed (λ f. pos reach)) (toward e t)) (sym h) (has_map (λ f. toward f (pos reach)) e ways (has_way e)))

@@ -1,5 +1,6 @@
 -- The six ways along the axes. A block reaches from `bot` to `top` each way, and each face looks one way.
-use Rattle.std.proofs.Common.{◌≡◌, List, [], ◌∷◌, map, ℤ, pos, negsuc, ◌+ℤ◌, ◌-ℤ◌, ◌*ℤ◌, neg_ℤ, refl, ap, arith}
+use Rattle.std.proofs.Common.{◌≡◌, List, [], ◌∷◌, map, ℤ, pos, negsuc, ◌+ℤ◌, ◌-ℤ◌, ◌*ℤ◌, neg_ℤ, sym, refl, ap, arith}
+use lib.IntN.{neg_ℤ-neg_ℤ}
 use Rattle.std.specs.Int.{int_max, int_min}
 use Rattle.std.proofs.lemmas.Int.{ints, clamps}
 use Rattle.plane.specs.declared.types.Plane.{Plane}
@@ -10,7 +11,7 @@ use Rattle.plane.specs.Moves.{rolled_plane, rolled_place}
 use Rattle.solid.specs.Shapes.{box, planes, plane}
 use Rattle.solid.specs.Models.{Face}
 use Rattle.solid.specs.Examples.{at}
-use Rattle.faces.specs.declared.types.Block.{Block}
+use Rattle.faces.specs.declared.types.Bounds.{Bounds}
 use Rattle.faces.specs.Blocks.{as_shape, cut, high_face, low_face, rolled_face, rolled_back, block_faces}
 
 -- toward more x and less x, more y and less y, more z and less z
@@ -71,7 +72,7 @@ far south q = neg_ℤ q.y
 far up q = q.z
 far down q = neg_ℤ q.z
 
-abbrev pub top : Block → Way → ℤ
+abbrev pub top : Bounds → Way → ℤ
 top b east = b.x1
 top b west = neg_ℤ b.x0
 top b north = b.y1
@@ -79,7 +80,7 @@ top b south = neg_ℤ b.y0
 top b up = b.z1
 top b down = neg_ℤ b.z0
 
-abbrev pub bot : Block → Way → ℤ
+abbrev pub bot : Bounds → Way → ℤ
 bot b east = b.x0
 bot b west = neg_ℤ b.x1
 bot b north = b.y0
@@ -88,23 +89,20 @@ bot b up = b.z0
 bot b down = neg_ℤ b.z1
 
 -- ---- what holds of each way
-neg_neg : (n : ℤ) → n ≡ neg_ℤ (neg_ℤ n)
-neg_neg n = omega (arith, ints)
-
 pub far-opp : (e : Way) (q : Place) → far (opp e) q ≡ neg_ℤ (far e q)
 far-opp east q = refl
-far-opp west q = neg_neg q.x
+far-opp west q = sym (neg_ℤ-neg_ℤ q.x)
 far-opp north q = refl
-far-opp south q = neg_neg q.y
+far-opp south q = sym (neg_ℤ-neg_ℤ q.y)
 far-opp up q = refl
-far-opp down q = neg_neg q.z
+far-opp down q = sym (neg_ℤ-neg_ℤ q.z)
 
-pub bot-top : (b : Block) (e : Way) → bot b e ≡ neg_ℤ (top b (opp e))
-bot-top b east = neg_neg b.x0
+pub bot-top : (b : Bounds) (e : Way) → bot b e ≡ neg_ℤ (top b (opp e))
+bot-top b east = sym (neg_ℤ-neg_ℤ b.x0)
 bot-top b west = refl
-bot-top b north = neg_neg b.y0
+bot-top b north = sym (neg_ℤ-neg_ℤ b.y0)
 bot-top b south = refl
-bot-top b up = neg_neg b.z0
+bot-top b up = sym (neg_ℤ-neg_ℤ b.z0)
 bot-top b down = refl
 
 pub turned-toward : (e : Way) (d : ℤ) → turned (toward e d) ≡ toward (opp e) (neg_ℤ d)
@@ -132,7 +130,7 @@ height-far e d q = ap (λ (h : ℤ). h -ℤ (d *ℤ pos q.w)) (weight-far e q)
 high_neg : (n : ℤ) → neg_ℤ (int_max n (neg_ℤ (pos reach))) ≡ int_min (neg_ℤ n) (pos reach)
 high_neg n = omega (arith, ints, clamps)
 
-pub top-cut : (b : Block) (e : Way) → top (cut b) e ≡ int_min (top b e) (pos reach)
+pub top-cut : (b : Bounds) (e : Way) → top (cut b) e ≡ int_min (top b e) (pos reach)
 unfolding cut
 top-cut b east = refl
 top-cut b west = high_neg b.x0
@@ -142,11 +140,11 @@ top-cut b up = refl
 top-cut b down = high_neg b.z0
 
 -- ---- a block's planes and faces by the ways
-pub planes-ways : (b : Block) → planes (as_shape b) ≡ map (λ e. toward e (top b e)) ways
+pub planes-ways : (b : Bounds) → planes (as_shape b) ≡ map (λ e. toward e (top b e)) ways
 unfolding planes box
 planes-ways b = refl
 
-abbrev pub rim : Block → Way → List Plane
+abbrev pub rim : Bounds → Way → List Plane
 rim b e =
     let f = first e in
     let g = second e in
@@ -156,7 +154,7 @@ rim b e =
 abbrev pub rectangle : ℤ → ℤ → ℤ → ℤ → ℤ → List Place
 rectangle d i j k l = at d i k 1 ∷ at d j k 1 ∷ at d j l 1 ∷ at d i l 1 ∷ []
 
-unfoldable pub face_at : Block → Way → Face
+unfoldable pub face_at : Bounds → Way → Face
 face_at b east = high_face b
 face_at b west = low_face b
 face_at b north = rolled_face (high_face (rolled_back b))
@@ -164,7 +162,7 @@ face_at b south = rolled_face (low_face (rolled_back b))
 face_at b up = rolled_face (rolled_face (high_face (rolled_back (rolled_back b))))
 face_at b down = rolled_face (rolled_face (low_face (rolled_back (rolled_back b))))
 
-pub faces_ways : (b : Block) → block_faces b ≡ map (face_at b) ways
+pub faces_ways : (b : Bounds) → block_faces b ≡ map (face_at b) ways
 unfolding block_faces face_at
 faces_ways b = refl
 
@@ -173,7 +171,7 @@ abbrev pub seen : Way → Place → Place
 seen e q = at (far e q) (far (first e) q) (far (second e) q) q.w
 
 -- what a face is made of
-pub record Made (b : Block) (e : Way) (f : Face) : Type 0 where
+pub record Made (b : Bounds) (e : Way) (f : Face) : Type 0 where
   pub plane : f.plane ≡ toward e (top b e)
   pub edges : f.edges ≡ rim b e
   pub ahead : ℤ
@@ -184,7 +182,7 @@ pub record Made (b : Block) (e : Way) (f : Face) : Type 0 where
 neg_twice : (n : ℤ) → neg_ℤ (n +ℤ n) ≡ neg_ℤ n +ℤ neg_ℤ n
 neg_twice n = omega (arith, ints)
 
-pub made : (b : Block) (e : Way) → Made b e (face_at b e)
+pub made : (b : Bounds) (e : Way) → Made b e (face_at b e)
 unfolding face_at high_face low_face rolled_face rolled_plane rolled_place
 made b east = record { plane = refl; edges = refl; ahead = _; twice = refl; place = refl; corners = refl }
 made b west = record { plane = refl; edges = refl; ahead = _; twice = neg_twice b.x0; place = refl; corners = refl }

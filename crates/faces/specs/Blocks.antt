@@ -8,14 +8,14 @@ use Rattle.plane.specs.Moves.{rolled_plane, rolled_place}
 use Rattle.solid.specs.Shapes.{Shape, box, planes, plane}
 use Rattle.solid.specs.Models.{Piece, Face, Model}
 use Rattle.solid.specs.Examples.{at}
-use Rattle.faces.specs.declared.types.Block.{Block}
-use Rattle.faces.specs.declared.types.Rectangle.{Rectangle}
+use Rattle.faces.specs.declared.types.Bounds.{Bounds}
+use Rattle.faces.specs.declared.types.Rectangle.TheInside.{Inside}
 
-abbrev pub block : ℤ → ℤ → ℤ → ℤ → ℤ → ℤ → Block
+abbrev pub block : ℤ → ℤ → ℤ → ℤ → ℤ → ℤ → Bounds
 block x0 x1 y0 y1 z0 z1 = record { x0 = x0; x1 = x1; y0 = y0; y1 = y1; z0 = z0; z1 = z1 }
 
 -- the places in a block
-abbrev pub as_shape : Block → Shape
+abbrev pub as_shape : Bounds → Shape
 as_shape b = box b.x0 b.x1 b.y0 b.y1 b.z0 b.z1
 
 -- what of it lies in the workshop: each end comes no further than the workshop's
@@ -25,30 +25,30 @@ low_end n = int_max n (neg_ℤ (pos reach))
 abbrev pub high_end : ℤ → ℤ
 high_end n = int_min n (pos reach)
 
-unfoldable pub cut : Block → Block
+unfoldable pub cut : Bounds → Bounds
 cut b = block (low_end b.x0) (high_end b.x1) (low_end b.y0) (high_end b.y1) (low_end b.z0) (high_end b.z1)
 
 -- there are places in it
-unfoldable pub thick : Block → Bool
+unfoldable pub thick : Bounds → Bool
 thick b = int_lt b.x0 b.x1 && (int_lt b.y0 b.y1 && int_lt b.z0 b.z1)
 
 -- the same, and none if there are no places in it
-unfoldable pub left_of : Block → Option Block
+unfoldable pub left_of : Bounds → Option Bounds
 left_of b = cond (thick (cut b)) (Some (cut b)) None
 
 -- the one piece of a block, and the place in the middle of it
-unfoldable pub block_piece : Block → Piece
+unfoldable pub block_piece : Bounds → Piece
 block_piece b = record { planes = planes (as_shape b); place = at (b.x0 +ℤ b.x1) (b.y0 +ℤ b.y1) (b.z0 +ℤ b.z1) 2 }
 
 -- in the middle of a face at x, and round it: counter-clockwise, seen from more x
-abbrev pub middle_at : Block → ℤ → Place
+abbrev pub middle_at : Bounds → ℤ → Place
 middle_at b x = at (x +ℤ x) (b.y0 +ℤ b.y1) (b.z0 +ℤ b.z1) 2
 
-abbrev pub round_at : Block → ℤ → List Place
+abbrev pub round_at : Bounds → ℤ → List Place
 round_at b x = at x b.y0 b.z0 1 ∷ at x b.y1 b.z0 1 ∷ at x b.y1 b.z1 1 ∷ at x b.y0 b.z1 1 ∷ []
 
 -- the face that looks toward more x, and the one that looks toward less
-unfoldable pub high_face : Block → Face
+unfoldable pub high_face : Bounds → Face
 high_face b = record {
   plane = plane (pos 1) (pos 0) (pos 0) b.x1;
   edges = plane (pos 0) (pos 1) (pos 0) b.y1 ∷ plane (pos 0) (neg_ℤ (pos 1)) (pos 0) (neg_ℤ b.y0) ∷ plane (pos 0) (pos 0) (pos 1) b.z1 ∷ plane (pos 0) (pos 0) (neg_ℤ (pos 1)) (neg_ℤ b.z0) ∷ [];
@@ -56,7 +56,7 @@ high_face b = record {
   corners = round_at b b.x1;
 }
 
-unfoldable pub low_face : Block → Face
+unfoldable pub low_face : Bounds → Face
 low_face b = record {
   plane = plane (neg_ℤ (pos 1)) (pos 0) (pos 0) (neg_ℤ b.x0);
   edges = plane (pos 0) (pos 0) (pos 1) b.z1 ∷ plane (pos 0) (pos 0) (neg_ℤ (pos 1)) (neg_ℤ b.z0) ∷ plane (pos 0) (pos 1) (pos 0) b.y1 ∷ plane (pos 0) (neg_ℤ (pos 1)) (pos 0) (neg_ℤ b.y0) ∷ [];
@@ -68,24 +68,24 @@ low_face b = record {
 unfoldable pub rolled_face : Face → Face
 rolled_face f = record { plane = rolled_plane f.plane; edges = map rolled_plane f.edges; place = rolled_place f.place; corners = map rolled_place f.corners }
 
-abbrev pub rolled_back : Block → Block
+abbrev pub rolled_back : Bounds → Bounds
 rolled_back b = block b.y0 b.y1 b.z0 b.z1 b.x0 b.x1
 
 -- the two faces across each axis
-unfoldable pub block_faces : Block → List Face
+unfoldable pub block_faces : Bounds → List Face
 block_faces b =
     let c = rolled_back b in
     let d = rolled_back c in
     high_face b ∷ low_face b ∷ rolled_face (high_face c) ∷ rolled_face (low_face c) ∷ rolled_face (rolled_face (high_face d)) ∷ rolled_face (rolled_face (low_face d)) ∷ []
 
 -- a block's model; without a block it is empty
-unfoldable pub model_of : Option Block → Model
+unfoldable pub model_of : Option Bounds → Model
 model_of None = record { pieces = []; faces = [] }
 model_of (Some b) = record { pieces = block_piece b ∷ []; faces = block_faces b }
 
 -- the model of a box: of what of it lies in the workshop
-abbrev pub box_model : ℤ → ℤ → ℤ → ℤ → ℤ → ℤ → Model
-box_model x0 x1 y0 y1 z0 z1 = model_of (left_of (block x0 x1 y0 y1 z0 z1))
+abbrev pub box_model : Bounds → Model
+box_model b = model_of (left_of b)
 
 -- from one number to a larger one, both in the workshop
 pub record Span (m n : ℤ) : Type 0 where
@@ -94,7 +94,7 @@ pub record Span (m n : ℤ) : Type 0 where
   pub high : n ≤ℤ pos reach
 
 -- a block with places in it, all in the workshop
-pub record FitsBlock (b : Block) : Type 0 where
+pub record FitsBlock (b : Bounds) : Type 0 where
   pub x : Span b.x0 b.x1
   pub y : Span b.y0 b.y1
   pub z : Span b.z0 b.z1
@@ -107,5 +107,5 @@ pub record FitsFace (f : Face) : Type 0 where
   pub corners : AllByRecursion SmallPlace f.corners
 
 -- a face as the code has it
-abbrev pub as_face : Rectangle → Face
+abbrev pub as_face : Inside → Face
 as_face r = record { plane = r.plane; edges = r.edges; place = r.place; corners = r.corners }

@@ -1,120 +1,91 @@
 //! What of a box lies in the workshop: a block, and the piece that it is.
 
-ghost use Rattle.std.specs.Prelude.{◌≡◌, IfSome};
+ghost use Rattle.std.specs.Prelude.{◌≡◌};
 ghost use Rattle.std.specs.List.{AllByRecursion};
 ghost use Rattle.plane.specs.Limits.{FitsPlane, SmallPlace};
-ghost use Rattle.solid.specs.Shapes.{box, solid};
+ghost use Rattle.solid.specs.Shapes.{solid, plane as plane_by};
 ghost use Rattle.solid.specs.Models.{Right};
-ghost use Rattle.faces.specs.Blocks.{block, cut, thick, left_of, box_model, block_piece, FitsBlock};
+ghost use Rattle.faces.specs.Blocks.{as_shape, cut, thick, left_of, box_model, block_piece};
 
-use super::types::Block;
+use super::types::{Block, Bounds};
 use plane::types::{Place, Plane, REACH};
 
 /// Where the workshop ends.
 const END: i64 = REACH as i64;
 
-/// What of a block lies in the workshop.
-fn cut_off(b: Block) -> Block
-    ensures { result ≡ cut b }
+/// A plane by its numbers.
+fn by_numbers(a: i64, b: i64, c: i64, d: i64) -> Plane
+    ensures { result ≡ plane_by a b c d }
 {
-    Block {
-        x0: b.x0.max(-END),
-        x1: b.x1.min(END),
-        y0: b.y0.max(-END),
-        y1: b.y1.min(END),
-        z0: b.z0.max(-END),
-        z1: b.z1.min(END),
+    Plane { a, b, c, d }
+}
+
+impl Bounds {
+    /// What lies in the workshop.
+    fn cut_off(self) -> Bounds
+        ensures { result ≡ cut self }
+    {
+        Bounds {
+            x0: self.x0.max(-END),
+            x1: self.x1.min(END),
+            y0: self.y0.max(-END),
+            y1: self.y1.min(END),
+            z0: self.z0.max(-END),
+            z1: self.z1.min(END),
+        }
+    }
+
+    /// Whether there are places within them.
+    #[tactic(auto, using(std::proofs::lemmas::Int::ints), unfolding(crate::specs::Blocks::thick))]
+    fn is_thick(self) -> bool
+        ensures { result ≡ thick self }
+    {
+        self.x0 < self.x1 && self.y0 < self.y1 && self.z0 < self.z1
     }
 }
 
-/// Whether there are places in a block.
-fn is_thick(b: Block) -> bool
-    ensures { result ≡ thick b }
-{
-    b.x0 < b.x1 && b.y0 < b.y1 && b.z0 < b.z1
-}
+impl Block {
+    /// What of a box lies in the workshop; none if nothing does. The model of that, `model_of` the result, is
+    /// right for the box.
+    pub fn of(bounds: Bounds) -> Option<Block>
+        ensures value { result ≡ left_of bounds }
+        ensures right { Right (solid (as_shape bounds)) (box_model bounds) }
+    {
+        let bounds = bounds.cut_off();
+        if bounds.is_thick() {
+            Some(Block { bounds })
+        } else {
+            None
+        }
+    }
 
-/// What of a block lies in the workshop, if there are places in it.
-fn left_in(b: Block) -> Option<Block>
-    ensures { result ≡ left_of b }
-{
-    let c = cut_off(b);
-    if is_thick(c) { Some(c) } else { None }
-}
+    /// The planes of the block's piece: those toward more x and less x, then y, then z.
+    pub fn walls(self) -> [Plane; 6]
+        ensures value { result ≡ (block_piece self).planes }
+        ensures fits { AllByRecursion FitsPlane result }
+    {
+        let b = self.bounds;
+        [
+            by_numbers(1, 0, 0, b.x1),
+            by_numbers(-1, 0, 0, -b.x0),
+            by_numbers(0, 1, 0, b.y1),
+            by_numbers(0, -1, 0, -b.y0),
+            by_numbers(0, 0, 1, b.z1),
+            by_numbers(0, 0, -1, -b.z0),
+        ]
+    }
 
-/// What of a box lies in the workshop; none if nothing does. The model of that, `model_of` the result, is
-/// right for the box.
-pub fn block_of(x0: i64, x1: i64, y0: i64, y1: i64, z0: i64, z1: i64) -> Option<Block>
-    ensures value { result ≡ left_of (block x0 x1 y0 y1 z0 z1) }
-    ensures fits { IfSome result FitsBlock }
-    ensures right { Right (solid (box x0 x1 y0 y1 z0 z1)) (box_model x0 x1 y0 y1 z0 z1) }
-{
-    left_in(Block {
-        x0,
-        x1,
-        y0,
-        y1,
-        z0,
-        z1,
-    })
-}
-
-/// The planes of the block's piece: those toward more x and less x, then y, then z.
-pub fn walls(b: Block) -> [Plane; 6]
-    requires { FitsBlock b }
-    ensures value { result ≡ (block_piece b).planes }
-    ensures fits { AllByRecursion FitsPlane result }
-{
-    [
-        Plane {
-            a: 1,
-            b: 0,
-            c: 0,
-            d: b.x1,
-        },
-        Plane {
-            a: -1,
-            b: 0,
-            c: 0,
-            d: -b.x0,
-        },
-        Plane {
-            a: 0,
-            b: 1,
-            c: 0,
-            d: b.y1,
-        },
-        Plane {
-            a: 0,
-            b: -1,
-            c: 0,
-            d: -b.y0,
-        },
-        Plane {
-            a: 0,
-            b: 0,
-            c: 1,
-            d: b.z1,
-        },
-        Plane {
-            a: 0,
-            b: 0,
-            c: -1,
-            d: -b.z0,
-        },
-    ]
-}
-
-/// The place in the middle of the block.
-pub fn middle(b: Block) -> Place
-    requires { FitsBlock b }
-    ensures value { result ≡ (block_piece b).place }
-    ensures fits { SmallPlace result }
-{
-    Place {
-        x: b.x0 + b.x1,
-        y: b.y0 + b.y1,
-        z: b.z0 + b.z1,
-        w: 2,
+    /// The place in the middle of the block.
+    pub fn middle(self) -> Place
+        ensures value { result ≡ (block_piece self).place }
+        ensures fits { SmallPlace result }
+    {
+        let b = self.bounds;
+        Place {
+            x: b.x0 + b.x1,
+            y: b.y0 + b.y1,
+            z: b.z0 + b.z1,
+            w: 2,
+        }
     }
 }

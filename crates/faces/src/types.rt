@@ -1,10 +1,11 @@
-//! A block, and a face of one.
+//! The bounds of a box, a block within the workshop, and a face of one.
 
 use plane::types::{Place, Plane};
+use std::marker::Model;
 
 /// Everything with x0 < x < x1, y0 < y < y1 and z0 < z < z1.
-#[derive(Clone, Copy)]
-pub struct Block {
+#[derive(Clone, Copy, Debug, PartialEq, Eq)]
+pub struct Bounds {
     pub x0: i64,
     pub x1: i64,
     pub y0: i64,
@@ -13,11 +14,46 @@ pub struct Block {
     pub z1: i64,
 }
 
-/// A face of a block, which has four edges and four corners.
-#[derive(Clone, Copy)]
+/// A block: there are places within its bounds, and all of them are in the workshop.
+#[derive(Clone, Copy, Debug, PartialEq, Eq)]
+pub struct Block {
+    pub bounds: Bounds,
+}
+
+// Clauses see the bounds.
+impl Model for Block {
+    ghost use Rattle.faces.specs.declared.types.Bounds.{Bounds};
+    ghost use Rattle.faces.specs.Blocks.{FitsBlock};
+
+    ghost Value = { Bounds };
+
+    ghost view = { λ b. b.bounds };
+
+    ghost invariant = { λ b. FitsBlock b.bounds };
+
+    ghost inverse = { λ n. record { bounds = n } };
+}
+
+/// A face of a block, which has four edges and four corners. All its numbers are in range.
+#[derive(Clone, Copy, Debug, PartialEq, Eq)]
 pub struct Rectangle {
     pub plane: Plane,
     pub edges: [Plane; 4],
     pub place: Place,
     pub corners: [Place; 4],
+}
+
+// Clauses see a face of a model.
+impl Model for Rectangle {
+    ghost use Rattle.solid.specs.Models.{Face};
+
+    ghost Value = { Face };
+
+    ghost use Rattle.faces.specs.Blocks.{as_face, FitsFace};
+
+    ghost view = { as_face };
+
+    ghost invariant = { λ r. FitsFace (as_face r) };
+
+    ghost inverse = { λ f. record { plane = f.plane; edges = f.edges; place = f.place; corners = f.corners } };
 }

@@ -1,6 +1,5 @@
 -- The planes of two parts and of the workshop are level.
-use Rattle.std.proofs.Common.{◌≡◌, ℕ, ◌-◌, ◌≤◌, ◌⊎◌, List, ◌++◌, take, nat_abs, refl, ap, ◌∙◌, inl, inr, arith, lit≤}
-use native.Mathlib.Nat.{sub-zero}
+use Rattle.std.proofs.Common.{◌≡◌, ℕ, ◌≤◌, ◌⊎◌, List, ◌++◌, nat_abs, refl, ap, inl, inr, arith, lit≤}
 use Rattle.plane.specs.declared.types.Plane.{Plane}
 use Rattle.plane.specs.Limits.{FitsPlane, offset_limit}
 use Rattle.solid.specs.Shapes.{Has, planes, solid, workshop, box}
@@ -49,7 +48,3 @@ two_level first second a b p h = go (has_part p (planes workshop ++ planes (shap
     go : Has (planes workshop ++ planes (shape_of first)) p ⊎ Has (planes (shape_of second)) p → Good p
     go (inl k) = first_half (has_part p (planes workshop) (planes (shape_of first)) k)
     go (inr k) = steps_good second b p k
-
--- the planes as they are lent
-pub lent_planes : (ps qs : List Plane) (n : ℕ) → take n ps ≡ qs → take (n - 0) ps ≡ qs
-lent_planes ps qs n e = ap (λ (k : ℕ). take k ps) (sub-zero n) ∙ e

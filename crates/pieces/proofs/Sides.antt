@@ -1,5 +1,5 @@
 -- What is told of a place depends on nothing but the sides of the planes.
-use Rattle.std.proofs.Common.{◌≡◌, cond, not, ◌&&◌, ◌⊎◌, ◌++◌, ap, ap₂, inl, inr}
+use Rattle.std.proofs.Common.{◌≡◌, Bool, cond, ◌⊎◌, ◌++◌, ap, ap₂, inl, inr}
 use Rattle.plane.specs.declared.types.Plane.{Plane}
 use Rattle.plane.specs.declared.types.Place.{Place}
 use Rattle.solid.specs.declared.types.Told.TheVariants.{In, Out, On}
@@ -8,7 +8,7 @@ use Rattle.solid.specs.Examples.{told}
 use Rattle.solid.proofs.Members.{has_left, has_right, has_part}
 use Rattle.search.specs.Search.{Agree}
 use Rattle.search.proofs.Agreeing.{among_self, agree_on_some, agree_holds}
-use Rattle.pieces.specs.Questions.{is_in, inside, in_one, in_two, planes_of_two}
+use Rattle.pieces.specs.Questions.{is_in, inside, joined_in, planes_of_two}
 
 pub told_agree : (s : Shape) (q r : Place) → Agree (planes (solid s)) q r → told s q ≡ told s r
 unfolding told
@@ -16,7 +16,7 @@ told_agree s q r a =
     let ps = planes (solid s) in
     ap₂ (λ x y. cond x On (cond y In Out)) (agree_on_some ps q r a ps (among_self ps)) (agree_holds ps q r a (solid s) (among_self ps))
 
--- so does whether it is in one of two parts only, or in both
+-- so does what is said of two parts, joined
 abbrev pub AgreeTwo : Shape → Shape → Place → Place → Type 0
 AgreeTwo s t q r = Agree (planes_of_two s t) q r
 
@@ -35,8 +35,5 @@ second_has s t p h = go (has_part p (planes workshop) (planes t) h)
 second_agree : (s t : Shape) (q r : Place) → AgreeTwo s t q r → inside t q ≡ inside t r
 second_agree s t q r a = ap is_in (told_agree t q r (λ p h. a p (second_has s t p h)))
 
-pub one_agree : (s t : Shape) (q r : Place) → AgreeTwo s t q r → in_one s t q ≡ in_one s t r
-one_agree s t q r a = ap₂ (λ x y. cond x (not y) y) (first_agree s t q r a) (second_agree s t q r a)
-
-pub two_agree : (s t : Shape) (q r : Place) → AgreeTwo s t q r → in_two s t q ≡ in_two s t r
-two_agree s t q r a = ap₂ (λ x y. x && y) (first_agree s t q r a) (second_agree s t q r a)
+pub joined_agree : (f : Bool → Bool → Bool) (s t : Shape) (q r : Place) → AgreeTwo s t q r → joined_in f s t q ≡ joined_in f s t r
+joined_agree f s t q r a = ap₂ f (first_agree s t q r a) (second_agree s t q r a)

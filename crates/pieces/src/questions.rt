@@ -1,64 +1,73 @@
 //! What is asked of two parts at a place.
 
-ghost use Rattle.std.specs.Prelude.{◌≡◌, ◌≤◌, length};
+ghost use Rattle.std.specs.Prelude.{◌≡◌, ◌≤◌, Bool, length, cond, not, ◌&&◌};
 ghost use Rattle.plane.specs.Limits.{SmallPlace};
-ghost use Rattle.solid.specs.Shapes.{Shape, Fits};
 ghost use Rattle.solid.specs.Stacks.{shape_of};
-ghost use Rattle.solid.specs.Steps.{Coded};
-ghost use Rattle.pieces.specs.Questions.{inside, in_one, in_two, ReadySteps};
+ghost use Rattle.pieces.specs.Questions.{inside, joined_in};
 
+use super::parts::Parts;
 use plane::types::Place;
 use search::places::Question;
-use solid::types::Told;
-use solid::value::place_told;
+use solid::types::{Steps, Told};
 
 /// Whether a place is in the solid of the steps.
-fn is_inside(steps: &[u64], q: Place, work: &mut [u64]) -> bool
-    requires shape { Coded steps.now }
+fn is_inside(steps: Steps<'_>, q: Place, work: &mut [u64]) -> bool
     requires place { SmallPlace q }
-    requires room { length steps.now ≤ length work.old }
-    ensures { result ≡ inside (shape_of steps.now) q }
+    requires room { length steps.words.now ≤ length work.old }
+    ensures { result ≡ inside (shape_of steps.entry.words.now) q }
 {
-    match place_told(steps, q, work) {
-        Told::In => true,
-        Told::Out | Told::On => false,
-    }
+    steps.place_told(q, work) == Told::In
+}
+
+/// How the answers of two parts are joined to one.
+pub trait Join {
+    ghost joined: { Bool → Bool → Bool };
+
+    /// The one answer.
+    fn join(&self, first: bool, second: bool) -> bool
+        ensures { result ≡ joined first second };
 }
 
 /// Where two parts differ.
-#[derive(Drop)]
-pub struct Difference<'a, 'b> {
-    pub first: &'a [u64],
-    pub second: &'b [u64],
-}
+#[derive(Clone, Copy, Debug, PartialEq, Eq)]
+pub struct Difference;
 
-impl<'a, 'b> Question for Difference<'a, 'b> {
-    ghost asked = { λ d q. in_one (shape_of d.first.now) (shape_of d.second.now) q };
+impl Join for Difference {
+    ghost joined = { λ x y. cond x (not y) y };
 
-    ghost ready = { λ d n. ReadySteps d.first.now d.second.now n };
-
-    fn holds_at(&self, q: Place, work: &mut [u64]) -> bool {
-        let first = is_inside(self.first, q, work);
-        let second = is_inside(self.second, q, work);
+    fn join(&self, first: bool, second: bool) -> bool {
         first != second
     }
 }
 
 /// Where two parts meet.
-#[derive(Drop)]
-pub struct Overlap<'a, 'b> {
-    pub first: &'a [u64],
-    pub second: &'b [u64],
+#[derive(Clone, Copy, Debug, PartialEq, Eq)]
+pub struct Overlap;
+
+impl Join for Overlap {
+    ghost joined = { λ x y. x && y };
+
+    fn join(&self, first: bool, second: bool) -> bool {
+        first & second
+    }
 }
 
-impl<'a, 'b> Question for Overlap<'a, 'b> {
-    ghost asked = { λ d q. in_two (shape_of d.first.now) (shape_of d.second.now) q };
+/// Two parts, and how their answers are joined.
+#[derive(Drop)]
+pub struct Joined<'s, J> {
+    pub parts: &'s Parts<'s>,
+    pub join: J,
+}
 
-    ghost ready = { λ d n. ReadySteps d.first.now d.second.now n };
+impl<'s, J: Join> Question for Joined<'s, J> {
+    ghost asked = { λ d q. joined_in J.joined (shape_of d.parts.now.first) (shape_of d.parts.now.second) q };
+
+    ghost ready = { λ d n. (length d.parts.now.first ≤ n) × (length d.parts.now.second ≤ n) };
 
     fn holds_at(&self, q: Place, work: &mut [u64]) -> bool {
-        let first = is_inside(self.first, q, work);
-        let second = is_inside(self.second, q, work);
-        first & second
+        let parts = self.parts;
+        let first = is_inside(parts.first, q, work);
+        let second = is_inside(parts.second, q, work);
+        self.join.join(first, second)
     }
 }

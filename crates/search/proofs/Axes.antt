@@ -1,16 +1,16 @@
 -- Level planes by their axis.
 --     number_some, number_slope, number_is           the number of a plane along an axis
---     slope_size, number_short, base_short           how large slopes and numbers are
---     turned_level                                   a level plane turned round is level
+--     slope_size, number_short, then_short           how large slopes and numbers are
 --     axis_of                                        each level plane has an axis
 --     rise, height_along                             how far a place is past a number, and the plane's height by that
 --     on-rise, rise-on                               on the plane: at its number
 --     along_only, way, ways, same_way-along          level planes of one axis lie the same way, or turned
-use Rattle.std.proofs.Common.{◌≡◌, ℕ, zero, suc, ◌+◌, ◌≤◌, true, ◌&&◌, ◌⊎◌, ℤ, pos, negsuc, ◌-ℤ◌, ◌*ℤ◌, neg_ℤ, nat_abs, ◌<ℤ◌, Some, None, Option, sym, refl, ap, ◌∙◌, subst, ap₂, inl, inr, arith}
+use Rattle.std.proofs.Common.{◌≡◌, ℕ, zero, suc, ◌≤◌, Bool, true, false, ◌&&◌, ◌⊎◌, ℤ, pos, negsuc, ◌-ℤ◌, ◌*ℤ◌, neg_ℤ, nat_abs, ◌<ℤ◌, IfSome, Some, None, sym, refl, ap, ◌∙◌, subst, inl, inr, arith}
 use lib.IntN.{*ℤ-zero}
 use lib.Signed.{lt_z}
 use Rattle.std.proofs.lemmas.Int.{ints}
 use Rattle.std.proofs.lemmas.Bool.{and_parts, and_from}
+use Rattle.std.specs.Bool.{then_some}
 use Rattle.arith.specs.Bounds.{Short}
 use Rattle.arith.proofs.Order.{tri, below, same, above, cancel_zero}
 use Rattle.arith.proofs.Poly.{con, neg_e, ◌:-◌, ◌:*◌}
@@ -25,7 +25,7 @@ use Rattle.plane.proofs.Heights.{on-height, height-on}
 use Rattle.plane.proofs.Tests.{lt_yes, lt_says, same_yes}
 use Rattle.search.specs.declared.levels.Axis.{Axis}
 use Rattle.search.specs.declared.levels.Axis.TheVariants.{X, Y, Z}
-use Rattle.search.specs.Levels.{Level, BaseLevel, slope_along, coordinate, number_by, number_along, base_along}
+use Rattle.search.specs.Levels.{Level, slope_along, coordinate, number_by, number_along}
 
 -- ---- the number along an axis
 by_some : (s d : ℤ) → (s ≡ pos 0 → ⊥) → number_by s d ≡ Some (s *ℤ d)
@@ -71,9 +71,9 @@ number_short x p v f e =
     let s : Short (slope_along x p) 1 = record { size = slope_size x p f.1 } in
     subst (λ (u : ℤ). Short u offset_limit) (sym (number_is x p v e)) (is_mul (is_self s) (is_self f.0.d)).short
 
-pub base_short : (x : Axis) (o : Option Plane) (v : ℤ) → BaseLevel o → base_along x o ≡ Some v → Short v offset_limit
-base_short x None v f e = let z : ◌≡◌ {A = ℕ} 0 1 = cc in absurd (omega arith)
-base_short x (Some p) v f e = number_short x p v (f p refl) e
+pub then_short : (b : Bool) (v : ℤ) (n : ℕ) → Short v n → IfSome (then_some b v) (λ u. Short u n)
+then_short true v n s = s
+then_short false v n s = tt
 
 -- ---- the axis of a plane
 zero_or : (z : ℤ) → (z ≡ pos 0) ⊎ (z ≡ pos 0 → ⊥)
@@ -184,15 +184,6 @@ unfolding turned
 slope_turned X p = refl
 slope_turned Y p = refl
 slope_turned Z p = refl
-
-size_neg : (z : ℤ) → nat_abs (neg_ℤ z) ≡ nat_abs z
-size_neg (pos zero) = refl
-size_neg (pos (suc n)) = refl
-size_neg (negsuc n) = refl
-
-pub turned_level : (p : Plane) → Level p → Level (turned p)
-unfolding turned
-turned_level p l = ap₂ ◌+◌ (ap₂ ◌+◌ (size_neg p.a) (size_neg p.b)) (size_neg p.c) ∙ l
 
 pub only_turned : (x : Axis) (p : Plane) → Only x p → Only x (turned p)
 unfolding turned

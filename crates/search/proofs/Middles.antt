@@ -1,12 +1,12 @@
 -- The doubled coordinates between the level planes of an axis, as they are written and as they are used.
---     numbers_none, one_more, none_more              the words that a loop writes
+--     one_more, none_more                            the words that a loop writes
 --     middle_from                                    what the middles come from
---     spots_short                                    how large they are
+--     middles_short, twice_short                     how large they are
 --     odd                                            none is at a number
 --     choose                                         one is on the same side of each number as a place that is at none
-use Rattle.std.proofs.Common.{◌≡◌, ℕ, ◌+◌, ◌<◌, ◌≤◌, ◌⊎◌, List, [], ◌∷◌, ◌++◌, length, get_or, take, set, ℤ, pos, ◌+ℤ◌, ◌-ℤ◌, ◌*ℤ◌, nat_abs, ◌≤ℤ◌, ◌<ℤ◌, Some, None, Option, sym, refl, ap, ◌∙◌, subst, ap₂, inl, inr, append_assoc, arith, lit≤, w64, to_z}
+use Rattle.std.proofs.Common.{◌≡◌, ℕ, ◌+◌, ◌<◌, ◌≤◌, ◌⊎◌, List, [], ◌∷◌, ◌++◌, length, get_or, take, ℤ, pos, ◌+ℤ◌, ◌-ℤ◌, ◌*ℤ◌, nat_abs, ◌≤ℤ◌, ◌<ℤ◌, Some, None, Option, sym, refl, ap, ◌∙◌, subst, ap₂, inl, inr, append_assoc, arith, lit≤, w64, to_z}
 use lib.Signed.{<ℤ_irrefl}
-use Rattle.std.proofs.lemmas.List.{take_more, take_more_set, map-append, append-nil}
+use Rattle.std.proofs.lemmas.List.{take_more, map-append, append-nil}
 use Rattle.std.proofs.lemmas.Int.{ints, by_lt_z}
 use Rattle.arith.specs.Bounds.{Short}
 use Rattle.arith.proofs.Order.{tri, below, same, above, minus, plus, sgn, says_sgn}
@@ -19,8 +19,8 @@ use Rattle.plane.specs.Limits.{offset_limit}
 use Rattle.solid.specs.Shapes.{Has}
 use Rattle.solid.proofs.Members.{has_none, has_here, has_there, has_either, has_left, has_right, has_part}
 use Rattle.search.specs.declared.levels.Axis.{Axis}
-use Rattle.search.specs.Levels.{number_along, base_along, behind, behind_each, middles, lowest, spots_by, spots, spot_limit, numbers, AllLevel, BaseLevel, AllShort}
-use Rattle.search.proofs.Axes.{number_short, base_short, rise}
+use Rattle.search.specs.Levels.{number_along, behind, behind_each, middles, lowest, spot_limit, numbers, AllLevel, AllShort}
+use Rattle.search.proofs.Axes.{number_short, rise}
 
 -- ---- as they are written
 each_append : (x : Axis) (ps rs : List Plane) → behind_each x (ps ++ rs) ≡ behind_each x ps ++ behind_each x rs
@@ -33,20 +33,14 @@ middles_more x ps i d h =
     ∙ ap (λ (ms : List ℤ). lowest ∷ ms) (each_append x (take i ps) (get_or ps i d ∷ []))
     ∙ ap (λ (ms : List ℤ). lowest ∷ (behind_each x (take i ps) ++ ms)) (append-nil (behind (number_along x (get_or ps i d))))
 
-numbers_more : (ws : List ℕ) (n w : ℕ) → n < length ws → numbers (take (n + 1) (set ws n w)) ≡ numbers (take n ws) ++ (to_z w64 w ∷ [])
-numbers_more ws n w h = ap numbers (take_more_set ws n w h) ∙ map-append (to_z w64) (take n ws) (w ∷ [])
-
-pub numbers_none : (ws : List ℕ) (w : ℕ) → 0 < length ws → numbers (take 1 (set ws 0 w)) ≡ to_z w64 w ∷ []
-numbers_none ws w h = numbers_more ws 0 w h
-
-module _ (x : Axis) (ps : List Plane) (i : ℕ) (d : Plane) (h : i < length ps) (ws : List ℕ) (n : ℕ) (k : n < length ws) (e : numbers (take n ws) ≡ middles x (take i ps)) where
-  pub one_more : (v : ℤ) (w : ℕ) → number_along x (get_or ps i d) ≡ Some v → to_z w64 w ≡ pos 2 *ℤ v +ℤ pos 1 → numbers (take (n + 1) (set ws n w)) ≡ middles x (take (i + 1) ps)
+module _ (x : Axis) (ps : List Plane) (i : ℕ) (d : Plane) (h : i < length ps) (ws : List ℕ) (e : numbers ws ≡ middles x (take i ps)) where
+  pub one_more : (v : ℤ) (w : ℕ) → number_along x (get_or ps i d) ≡ Some v → to_z w64 w ≡ pos 2 *ℤ v +ℤ pos 1 → numbers (ws ++ w ∷ []) ≡ middles x (take (i + 1) ps)
   one_more v w f g =
-      numbers_more ws n w k
+      map-append (to_z w64) ws (w ∷ [])
       ∙ ap₂ ◌++◌ e (ap (λ (m : ℤ). m ∷ []) g ∙ sym (ap behind f))
       ∙ sym (middles_more x ps i d h)
 
-  pub none_more : number_along x (get_or ps i d) ≡ None → numbers (take n ws) ≡ middles x (take (i + 1) ps)
+  pub none_more : number_along x (get_or ps i d) ≡ None → numbers ws ≡ middles x (take (i + 1) ps)
   none_more f = e ∙ sym (append-nil (middles x (take i ps))) ∙ ap (λ (ms : List ℤ). middles x (take i ps) ++ ms) (sym (ap behind f)) ∙ sym (middles_more x ps i d h)
 
 -- ---- what they come from
@@ -77,25 +71,18 @@ module _ (x : Axis) (m : ℤ) where
 
 -- ---- sizes
 module _ (x : Axis) (ps : List Plane) (a : AllLevel ps) where
-  middles_short : AllShort (middles x ps)
+  pub middles_short : AllShort (middles x ps)
   middles_short m h = elim (middle_from x m ps h) [
     | inl e ↦ subst (λ (z : ℤ). Short z spot_limit) (sym e) (record { size = lit≤ tt })
     | inr b ↦ subst (λ (z : ℤ). Short z spot_limit) (sym b.is)
         (is_add (is_mul (is_pos {k = 2} {n = 2} (lit≤ tt)) (is_self (number_short x b.plane b.number (a b.plane b.has) b.along))) (is_pos {k = 1} {n = 1} (lit≤ tt))).short
   ]
 
-  pub spots_short : (o : Option Plane) → BaseLevel o → AllShort (spots o ps x)
-  spots_short o b = go (base_along x o) refl
-    where
-      go : (n : Option ℤ) → base_along x o ≡ n → AllShort (spots_by n (middles x ps))
-      go None e m h = middles_short m h
-      go (Some v) e m h = elim (has_either (pos 2 *ℤ v) m [] h) [
-        | inl i ↦
-            let s : Short v offset_limit = base_short x o v b e in
-            let k : nat_abs v ≤ offset_limit = s.size in
-            subst (λ (z : ℤ). Short z spot_limit) i (record { size = omega (arith, ints) })
-        | inr l ↦ absurd (has_none m l)
-      ]
+pub twice_short : (v : ℤ) → Short v offset_limit → AllShort ((pos 2 *ℤ v) ∷ [])
+twice_short v s m h = elim (has_either (pos 2 *ℤ v) m [] h) [
+  | inl i ↦ let k : nat_abs v ≤ offset_limit = s.size in subst (λ (z : ℤ). Short z spot_limit) i (record { size = omega (arith, ints) })
+  | inr l ↦ absurd (has_none m l)
+]
 
 -- ---- none is at a number
 pub odd : (x : Axis) (ps : List Plane) (m v : ℤ) → Has (middles x ps) m → m -ℤ (v *ℤ pos 2) ≡ pos 0 → ⊥

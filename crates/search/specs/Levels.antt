@@ -77,6 +77,11 @@ AllLevel ps = (p : Plane) → Has ps p → FitsPlane p × Level p
 abbrev pub BaseLevel : Option Plane → Type 0
 BaseLevel o = (p : Plane) → o ≡ Some p → FitsPlane p × Level p
 
+-- planes, and a base to stay on, if there is one
+pub record Grid : Type 0 where
+  pub base : Option Plane
+  pub planes : List Plane
+
 -- doubled coordinates in range
 abbrev pub AllShort : List ℤ → Type 0
 AllShort ms = (m : ℤ) → Has ms m → Short m spot_limit

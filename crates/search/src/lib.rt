@@ -3,5 +3,6 @@
 
 #![tactic(auto)]
 
+pub mod lent;
 mod levels;
 pub mod places;

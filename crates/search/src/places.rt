@@ -6,8 +6,9 @@ ghost use Rattle.plane.specs.Limits.{FitsPlane, SmallPlace};
 ghost use Rattle.search.specs.Search.{Off, OffBut, BySides, BySidesOn, Found, lent_words};
 ghost use Rattle.search.specs.Levels.{Level, AllLevel};
 
-use super::levels::search;
+use super::levels::Grid;
 use plane::types::{Place, Plane};
+use std::marker::Model;
 
 /// A question that is asked of places.
 pub trait Question {
@@ -24,6 +25,35 @@ pub trait Question {
         ensures { result ≡ asked self.now q };
 }
 
+/// A question, and words that are lent for it.
+#[derive(Drop)]
+pub(crate) struct Asker<'q, 'w, Q: Question> {
+    pub(crate) question: &'q Q,
+    pub(crate) work: &'w mut [u64],
+}
+
+// Clauses see the question.
+impl<'q, 'w, Q: Question> Model for Asker<'q, 'w, Q> {
+    ghost use Rattle.std.specs.Prelude.{length};
+
+    ghost Value = { Q };
+
+    ghost view = { λ a. a.question.now };
+
+    ghost invariant = { λ a. Q.ready a.question.now (length a.work.now) };
+}
+
+impl<'q, 'w, Q: Question> Asker<'q, 'w, Q> {
+    /// Whether the question holds at a place.
+    pub(crate) fn holds_at(&mut self, q: Place) -> bool
+        requires { SmallPlace q }
+        ensures value { result ≡ Q.asked self.old q }
+        ensures same { self.new ≡ self.old }
+    {
+        self.question.holds_at(q, self.work)
+    }
+}
+
 /// A place on none of the planes for which the question holds, if there is one. The question depends on nothing
 /// but the sides of the planes; `lent` has three words for each plane and three more, and `work` what the question wants.
 pub fn find<Q: Question>(
@@ -38,7 +68,8 @@ pub fn find<Q: Question>(
     requires room { lent_words (length planes.now) ≤ length lent.old }
     ensures { Found (Off planes.now) (Q.asked question.now) result }
 {
-    search(question, None, planes, lent, work)
+    let grid = Grid { base: None, planes };
+    grid.search(&mut Asker { question, work }, lent)
 }
 
 /// A place on the base, and on none of the planes that crosses it, for which the question holds, if there is one.
@@ -57,5 +88,9 @@ pub fn find_on<Q: Question>(
     requires room { lent_words (length planes.now) ≤ length lent.old }
     ensures { Found (OffBut planes.now base) (Q.asked question.now) result }
 {
-    search(question, Some(base), planes, lent, work)
+    let grid = Grid {
+        base: Some(base),
+        planes,
+    };
+    grid.search(&mut Asker { question, work }, lent)
 }

@@ -1,8 +1,10 @@
-use Rattle.std.proofs.Common.{◌≡◌, ◌+◌, ◌≤◌, ◌++◌, take, drop}
+use Rattle.std.proofs.Common.{◌≡◌, ◌+◌, ◌≤◌, ◌++◌, length, drop}
 use Rattle.solid.specs.Stacks.{word_planes}
 use Rattle.pieces.proofs.gather.gather.Given as goal
 
+-- the list's own planes and those of the steps so far; with those of the rest they are all
 abbrev pub invariant-loop-w : goal.invariant-loop-w
 invariant-loop-w l =
-    (l.n ≤ l.count + l.w-index)
-    × (take l.n l.planes ++ word_planes (drop l.w-index l.steps) ≡ take l.count l.initial.planes ++ word_planes l.steps)
+    (length l.planes.items ≤ length l.initial.planes.items + l.w-index)
+    × (l.planes.room ≡ l.initial.planes.room)
+    × (l.planes.items ++ word_planes (drop l.w-index l.words) ≡ l.initial.planes.items ++ word_planes l.words)
