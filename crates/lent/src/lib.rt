@@ -70,7 +70,8 @@ impl<'a, T: Copy> LentList<'a, T> {
 
     /// What is in the list, which ends with that.
     pub fn into_slice(self) -> &'a [T]
-        ensures { result.now ≡ self.entry.items }
+        ensures items { result.now ≡ self.entry.items }
+        ensures within { length result.now ≤ self.entry.room }
     {
         let LentList { room, used } = self;
         &room[..used]

@@ -6,8 +6,8 @@ ghost use Rattle.search.specs.Levels.{AllLevel};
 ghost use Rattle.pieces.specs.Questions.{planes_of_two};
 
 use super::parts::Parts;
+use lent::LentList;
 use plane::types::Plane;
-use search::lent::LentList;
 use solid::types::Step;
 use solid::value::walls;
 
@@ -15,7 +15,8 @@ use solid::value::walls;
 fn gather(words: &[u64], planes: &mut LentList<Plane>)
     requires { length planes.old.items + length words.now ≤ planes.old.room }
     ensures few { length planes.new.items ≤ length planes.old.items + length words.now }
-    ensures are { planes.new ≡ record { items = planes.old.items ++ word_planes words.now; room = planes.old.room } }
+    ensures are { planes.new.items ≡ planes.old.items ++ word_planes words.now }
+    ensures room { planes.new.room ≡ planes.old.room }
 {
     for w in words {
         if let Step::Half(p) = Step::from(*w) {

@@ -7,8 +7,8 @@ ghost use Rattle.plane.specs.Limits.{FitsPlane, SmallPlace, offset_limit};
 ghost use Rattle.search.specs.Levels.{Level, slope_along, number_along, base_along, numbers, middles, spots, spot_limit, halved, AllShort, Listed, Standing};
 ghost use Rattle.search.specs.Search.{OffAt, BySidesAt, Found, lent_words};
 
-use super::lent::LentList;
 use super::places::{Asker, Question};
+use lent::LentList;
 use plane::types::{OFFSET_LIMIT, Place, Plane};
 use std::marker::Model;
 

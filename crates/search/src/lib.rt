@@ -3,6 +3,5 @@
 
 #![tactic(auto)]
 
-pub mod lent;
 mod levels;
 pub mod places;

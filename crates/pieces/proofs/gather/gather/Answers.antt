@@ -1,4 +1,4 @@
-use Rattle.std.proofs.Common.{ℕ, List, arith, length-append, ap₂}
+use Rattle.std.proofs.Common.{arith, length-append}
 use Rattle.plane.specs.declared.types.Plane.{Plane}
 use Rattle.pieces.proofs.Gathering.{one_plane, no_plane, no_more}
 use Rattle.pieces.proofs.gather.gather.Goals as goal
@@ -10,7 +10,7 @@ loop-w-preserved c =
     let v = c.loop-w.invariant in
     elim c.match-from.branch [
       | in-Half w ↦
-          rw (w.planes-is, w.push.ensures)
+          rw (w.planes-is, w.push.ensures.items, w.push.ensures.room)
           (omega (arith, length-append {A = Plane}), v.1, one_plane ws c.loop-w.planes.items c.loop-w.w-index c.loop-w-test.true _ v.2 w.in-Half.p c.from.result c.from.ensures w.in-Half.is)
       | in_default w ↦
           rw w.planes-is
@@ -19,6 +19,4 @@ loop-w-preserved c =
 
 pub returns-clause-are : goal.returns-clause-are
 returns-clause-are c =
-    let v = c.loop-w.invariant in
-    let e = no_more c.args.words.now c.loop-w.planes.items c.loop-w.w-index _ c.loop-w-test.false v.2 in
-    ap₂ (λ (ps : List Plane) (n : ℕ). record { items = ps; room = n }) e v.1
+    no_more c.args.words.now c.loop-w.planes.items c.loop-w.w-index _ c.loop-w-test.false c.loop-w.invariant.2

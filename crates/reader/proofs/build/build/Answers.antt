@@ -81,5 +81,5 @@ loop-rest-preserved c t =
 
 pub returns : goal.returns
 returns c t =
-    let l = ends (c.loop-rest.invariant t) (omega arith) c.into_slice.result.now c.into_slice-2.result.now c.into_slice.ensures c.into_slice-2.ensures in
+    let l = ends (c.loop-rest.invariant t) (omega arith) c.into_slice.result.now c.into_slice-2.result.now c.into_slice.ensures.items c.into_slice-2.ensures.items in
     record { steps_are = l.0; asked_are = l.1; count = l.2 }

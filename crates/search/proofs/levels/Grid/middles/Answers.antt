@@ -17,7 +17,7 @@ loop-p-preserved c =
     elim c.match-number_of.branch [
       | in-Some w ↦
           let b = is_num w.in-Some.ensures.short tt in
-          rw (w.list-is, w.push-in-Some.ensures) (
+          rw (w.list-is, w.push-in-Some.ensures.items, w.push-in-Some.ensures.room) (
             omega (arith, length-append {A = ℕ}),
             c.loop-p.invariant.1,
             one_more c.args.axis ps c.loop-p.p-index _ c.loop-p-test.true ws c.loop-p.invariant.2
