@@ -2,7 +2,8 @@
 
 #![tactic(auto)]
 
-ghost use Rattle.std.specs.Prelude.{◌≡◌, ◌+◌, ◌<◌, ◌≤◌, ◌++◌, ◌∷◌, [], length};
+ghost use Rattle.std.specs.Prelude.{◌≡◌, ◌+◌, ◌<◌, ◌≤◌, ◌++◌, ◌∷◌, [], length, None};
+ghost use Rattle.std.specs.Option.{MatchOption};
 
 use std::marker::Model;
 
@@ -48,6 +49,16 @@ impl<'a, T: Copy> LentList<'a, T> {
     {
         self.room[self.used] = item;
         self.used += 1;
+    }
+
+    /// Takes the last one off, if there is one.
+    pub fn pop(&mut self) -> Option<T>
+        ensures items { MatchOption result (self.old.items ≡ []) (λ item. self.old.items ≡ self.new.items ++ item ∷ []) }
+        ensures none { result ≡ None → self.new.items ≡ self.old.items }
+        ensures room { self.new.room ≡ self.old.room }
+    {
+        self.used = self.used.checked_sub(1)?;
+        Some(self.room[self.used])
     }
 
     /// Puts more at the end.
