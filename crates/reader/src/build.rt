@@ -171,7 +171,7 @@ pub(crate) fn build<'w>(
         asked: LentList::new(asked),
     };
     let mut rest = found.tokens.behind(0);
-    while rest.len() > 0 {
+    while !rest.is_empty() {
         if rest.at(0) == b"part".as_slice() {
             lines.part(&rest);
             rest = rest.behind(PART_TOKENS);

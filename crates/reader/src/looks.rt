@@ -40,10 +40,7 @@ fn is_no_scale(word: &[u8]) -> bool
     if let Some(digits) = word.strip_prefix(b"-") {
         return !digits.is_empty();
     }
-    match amount_of(word) {
-        Some(size) => size == 0 || size > SCALE_LIMIT,
-        None => true,
-    }
+    amount_of(word).is_none_or(|size| size == 0 || size > SCALE_LIMIT)
 }
 
 /// Whether the bytes are a word: a letter, then up to 11 letters and digits.

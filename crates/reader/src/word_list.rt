@@ -1,6 +1,6 @@
 //! Words of a text, each by its first byte.
 
-ghost use Rattle.std.specs.Prelude.{◌≡◌, ◌<◌, ◌≤◌, [], length, take, drop, is_some, slice_index_or};
+ghost use Rattle.std.specs.Prelude.{◌≡◌, ◌==◌, ◌<◌, ◌≤◌, [], length, take, drop, is_some, slice_index_or};
 ghost use Rattle.grammar.specs.Grammar.{one_of};
 ghost use Rattle.reader.specs.Names.{words_at, rank, InText};
 
@@ -45,6 +45,13 @@ impl<'t> WordList<'t> {
         ensures { result ≡ length self.now }
     {
         self.starts.len()
+    }
+
+    /// Whether there are none.
+    pub(crate) fn is_empty(&self) -> bool
+        ensures { result ≡ (length self.now == 0) }
+    {
+        self.starts.is_empty()
     }
 
     /// The word at that number.
