@@ -3,3 +3,4 @@ pub mod Format
 pub mod Finds
 pub mod Extents
 pub mod Laws
+pub mod Misfits

@@ -1,5 +1,8 @@
 //! What is read from the bytes of a model.
 
+ghost use Rattle.std.specs.Prelude.{Some};
+ghost use Rattle.model.specs.Misfits.{misfit_text};
+
 use std::error::Error;
 use std::fmt;
 
@@ -29,6 +32,8 @@ pub enum Misfit {
 }
 
 impl fmt::Display for Misfit {
+    ghost output = { λ why. Some (misfit_text why) };
+
     fn fmt<W: fmt::Write>(&self, f: &mut fmt::Formatter<W>) -> fmt::Result {
         match self {
             Misfit::Short => f.write_str("the bytes end within the model"),

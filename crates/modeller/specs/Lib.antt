@@ -1,4 +1,5 @@
 pub mod Refusals
+pub mod Answered
 pub mod Drawings
 pub mod Openings
 pub mod Replies

@@ -1,7 +1,8 @@
 //! What the modeller hands back.
 
-ghost use Rattle.std.specs.Prelude.{◌≡◌};
-ghost use Rattle.modeller.specs.Refusals.{number_and_place};
+ghost use Rattle.std.specs.Prelude.{◌≡◌, Some};
+ghost use Rattle.modeller.specs.Answered.{reply_text};
+ghost use Rattle.modeller.specs.Refusals.{number_and_place, refused_text};
 
 use reader::types::Refusal;
 use solid::types::Told;
@@ -59,6 +60,8 @@ impl From<Refusal> for Refused {
 }
 
 impl fmt::Display for Refused {
+    ghost output = { λ why. Some (refused_text why) };
+
     fn fmt<W: fmt::Write>(&self, f: &mut fmt::Formatter<W>) -> fmt::Result {
         write!(f, "refused {} at {}", self.number(), self.place())
     }
@@ -74,6 +77,8 @@ pub enum Reply {
 }
 
 impl fmt::Display for Reply {
+    ghost output = { λ reply. Some (reply_text reply) };
+
     fn fmt<W: fmt::Write>(&self, f: &mut fmt::Formatter<W>) -> fmt::Result {
         match self {
             Reply::Place(told) => write!(f, "{told}"),
