@@ -56,7 +56,7 @@ fn box_words(x0: i64, x1: i64, y0: i64, y1: i64, z0: i64, z1: i64) -> [u64; BOX_
     ]
 }
 
-/// The number that is written; 0 where none is, which no text has that is taken.
+/// The number that is written. In a text that is taken there is one; else 0.
 fn number(word: &[u8]) -> i64
     ensures { (z : ℤ) → word.now ≡ signed z → Short z number_limit → result ≡ z }
 {
@@ -86,8 +86,8 @@ fn pair_at(pairs: &[u64], i: usize) -> [u64; 2]
     [pairs[2 * i], pairs[2 * i + 1]]
 }
 
-/// The two words that belong to a name, where each of some names has two; zeros where it is none of them, which no
-/// text has that is taken.
+/// The two words that belong to a name, where each of some names has two. In a text that is taken the name is one of
+/// them; else zeros.
 fn spot_of(names: &WordList<'_>, spots: &[u64], name: &[u8]) -> [u64; 2]
     requires { 2 * length names.now ≤ length spots.now }
     ensures { result ≡ pair_of names.now spots.now name.now }
