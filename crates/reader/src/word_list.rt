@@ -88,12 +88,9 @@ impl<'t> WordList<'t> {
     pub(crate) fn find(&self, word: &[u8]) -> Option<usize>
         ensures { result ≡ rank self.now word.now }
     {
-        for (i, start) in self.starts.iter().enumerate() {
-            if token_at(self.text, *start as usize) == word {
-                return Some(i);
-            }
-        }
-        None
+        self.starts
+            .iter()
+            .position(|start| token_at(self.text, *start as usize) == word)
     }
 
     /// Whether a word is among them.
