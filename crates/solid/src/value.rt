@@ -48,7 +48,7 @@ fn in_walls(q: Place) -> bool
     walls().iter().all(|p| p.side_of(q) == Side::Below)
 }
 
-/// The values of the shapes on a stack at a place, the newest last. Each is a word: 1 where the shape holds the
+/// The values of the shapes on a stack at a place, the newest last. Each lies in a word: 1 where the shape holds the
 /// place, and 0 where it doesn't.
 #[derive(Drop)]
 struct Values<'w> {
@@ -108,6 +108,7 @@ impl<'w> Values<'w> {
     }
 
     /// Does one step on the stack.
+    #[tactic(auto, using(crate::proofs::Sided::sides), unfolding(crate::specs::Shapes::holds, crate::specs::Shapes::by))]
     fn apply(&mut self, s: Step, q: Place)
         requires place { SmallPlace q }
         requires room { length self.old.items < self.old.room }

@@ -1,12 +1,7 @@
 use Rattle.std.proofs.Common.{refl, rules}
 use Rattle.solid.specs.Shapes.{both, either, without, by, holds}
 use Rattle.solid.proofs.Stacks.{at_joint}
-use Rattle.solid.proofs.Sided.{below-side}
 use Rattle.solid.proofs.value.Values.apply.Goals as goal
-
-pub returns-in-Half-clause-stack : goal.returns-in-Half-clause-stack
-unfolding holds by
-returns-in-Half-clause-stack c = λ st k. search (rules, below-side c.in-Half.p c.args.q)
 
 pub returns-in-Both-clause-stack : goal.returns-in-Both-clause-stack
 unfolding holds by
