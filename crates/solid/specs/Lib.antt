@@ -4,5 +4,4 @@ pub mod Laws
 pub mod Steps
 pub mod Told
 pub mod Stacks
-pub mod Values
 pub mod Examples

@@ -1,5 +1,5 @@
--- The stack machine's inside: the shapes on its stack, and words in memory that stand for them.
-use Rattle.std.specs.Prelude.{◌≡◌, ℕ, suc, ◌≤◌, Bool, true, false, List, [], ◌∷◌, ◌++◌, length, pos, slice_index}
+-- The stack machine's inside: the shapes on its stack, and their values.
+use Rattle.std.specs.Prelude.{◌≡◌, ℕ, ◌≤◌, Bool, List, [], ◌∷◌, ◌++◌, length, pos}
 use Rattle.plane.specs.declared.types.Plane.{Plane}
 use Rattle.plane.specs.declared.types.Place.{Place}
 use Rattle.solid.specs.declared.types.Step.{Step}
@@ -50,18 +50,10 @@ abbrev pub Makes : Shape → List ℕ → List Shape → Type 0
 Makes s [] st = st ≡ s ∷ []
 Makes s (w ∷ ws) st = Enough (step w) (length st) × Makes s ws (after (step w) st)
 
--- the first n words of a memory stand for the shapes on the stack, the newest last
-abbrev pub Stacked : (ℕ → Shape → Type 0) → List Shape → List ℕ → ℕ → Type 0
-Stacked R [] vs n = n ≡ 0
-Stacked R (s ∷ st) vs n = (m : ℕ) × (n ≡ suc m) × R (slice_index vs m) s × Stacked R st vs m
-
-abbrev pub bit : Bool → ℕ
-bit true = 1
-bit false = 0
-
--- a word stands for a shape by its value at a place
-abbrev pub ValuesAt : Place → ℕ → Shape → Type 0
-ValuesAt q v s = v ≡ bit (holds s q)
+-- the values of the shapes on the stack at a place, the newest last
+abbrev pub values_at : Place → List Shape → List Bool
+values_at q [] = []
+values_at q (s ∷ st) = values_at q st ++ (holds s q ∷ [])
 
 -- the planes of a step, and of words
 abbrev pub plane_of_step : Step → List Plane

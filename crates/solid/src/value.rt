@@ -1,15 +1,16 @@
 //! A shape's value at a place, by its steps.
 
-ghost use Rattle.std.specs.Prelude.{◌≡◌, ◌+◌, ◌<◌, ◌≤◌, Bool, List, ◌∷◌, length};
+ghost use Rattle.std.specs.Prelude.{◌≡◌, ◌+◌, ◌<◌, ◌≤◌, Bool, List, [], ◌∷◌, ◌++◌, length};
 ghost use Rattle.plane.specs.Limits.{SmallPlace};
 ghost use Rattle.solid.specs.Shapes.{Shape, holds, planes, workshop, Fits};
 ghost use Rattle.solid.specs.Steps.{words, FitsStep};
-ghost use Rattle.solid.specs.Stacks.{after, plane_of_step, Enough};
-ghost use Rattle.solid.specs.Values.{StandsFor};
+ghost use Rattle.solid.specs.Stacks.{after, plane_of_step, values_at, Enough};
 ghost use Rattle.solid.specs.Examples.{on_some, told};
 
 use super::types::{Step, Steps, Told};
+use lent::LentList;
 use plane::types::{Place, Plane, REACH, Side};
+use std::marker::Model;
 
 /// The planes at the workshop's end.
 pub fn walls() -> [Plane; 6]
@@ -47,50 +48,59 @@ fn in_walls(q: Place) -> bool
     walls().iter().all(|p| p.side_of(q) == Side::Below)
 }
 
-/// The values of the shapes on a stack at a place, the newest last, in the front of lent words, which are all the
-/// memory there is: 1 where the shape holds the place, and 0 where it doesn't.
+/// The values of the shapes on a stack at a place, the newest last. Each lies in a word: 1 where the shape holds the
+/// place, and 0 where it doesn't.
 #[derive(Drop)]
 struct Values<'w> {
-    words: &'w mut [u64],
-    top: usize,
+    words: LentList<'w, u64>,
 }
 
-impl Values<'_> {
+impl<'w> Model for Values<'w> {
+    ghost use Rattle.std.specs.Prelude.{Bool, map, ◌==◌};
+    ghost use Rattle.lent.specs.Lists.{Held};
+
+    ghost Value = { Held Bool };
+
+    ghost view = { λ v. record { items = map (λ w. w == 1) v.words.items; room = v.words.room } };
+}
+
+impl<'w> Values<'w> {
+    /// An empty stack.
+    fn new(words: &'w mut [u64]) -> Self
+        ensures { result ≡ record { items = []; room = length words.old } }
+    {
+        Values {
+            words: LentList::new(words),
+        }
+    }
+
     /// Puts a value on the stack.
     fn push(&mut self, value: bool)
-        requires { self.old.top < length self.old.words.now }
-        ensures stack { (q : Place) (s : Shape) (st : List Shape) → value ≡ holds s q
-            → StandsFor self.old q st → StandsFor self.new q (s ∷ st) }
-        ensures grows { self.new.top ≡ self.old.top + 1 }
-        ensures room { length self.new.words.now ≡ length self.old.words.now }
+        requires { length self.old.items < self.old.room }
+        ensures items { self.new.items ≡ self.old.items ++ value ∷ [] }
+        ensures room { self.new.room ≡ self.old.room }
     {
-        self.words[self.top] = u64::from(value);
-        self.top += 1;
+        self.words.push(u64::from(value));
     }
 
     /// Takes the newest value from the stack.
     fn pop(&mut self) -> bool
-        requires some { 0 < self.old.top }
-        requires room { self.old.top ≤ length self.old.words.now }
-        ensures stack { (q : Place) (s : Shape) (st : List Shape) → StandsFor self.old q (s ∷ st)
-            → (result ≡ holds s q) × StandsFor self.new q st }
-        ensures shrinks { self.new.top + 1 ≡ self.old.top }
-        ensures room { length self.new.words.now ≡ length self.old.words.now }
+        requires { 0 < length self.old.items }
+        ensures items { self.old.items ≡ self.new.items ++ result ∷ [] }
+        ensures room { self.new.room ≡ self.old.room }
     {
-        self.top -= 1;
-        self.words[self.top] == 1
+        self.words.pop() == Some(1)
     }
 
     /// Joins the two newest values.
     fn join<F: FnOnce(bool, bool) -> bool>(&mut self, op: F)
         requires callable { F.IsAlwaysCallable op }
-        requires some { 2 ≤ self.old.top }
-        requires room { self.old.top ≤ length self.old.words.now }
-        ensures stack { (q : Place) (s t u : Shape) (st : List Shape)
-            → ((v : Bool) → F.post op (holds s q) (holds t q) v → v ≡ holds u q)
-            → StandsFor self.old q (t ∷ (s ∷ st)) → StandsFor self.new q (u ∷ st) }
-        ensures shrinks { self.new.top + 1 ≡ self.old.top }
-        ensures room { length self.new.words.now ≡ length self.old.words.now }
+        requires some { 2 ≤ length self.old.items }
+        requires room { length self.old.items ≤ self.old.room }
+        ensures items { (vs : List Bool) (a b c : Bool) → ((v : Bool) → F.post op a b v → v ≡ c)
+            → self.old.items ≡ (vs ++ a ∷ []) ++ b ∷ [] → self.new.items ≡ vs ++ c ∷ [] }
+        ensures shrinks { length self.new.items + 1 ≡ length self.old.items }
+        ensures room { self.new.room ≡ self.old.room }
     {
         let newest = self.pop();
         let other = self.pop();
@@ -98,13 +108,14 @@ impl Values<'_> {
     }
 
     /// Does one step on the stack.
+    #[tactic(auto, using(crate::proofs::Sided::sides), unfolding(crate::specs::Shapes::holds, crate::specs::Shapes::by))]
     fn apply(&mut self, s: Step, q: Place)
         requires place { SmallPlace q }
-        requires room { self.old.top < length self.old.words.now }
-        requires enough { Enough s self.old.top }
-        ensures stack { (st : List Shape) → StandsFor self.old q st → StandsFor self.new q (after s st) }
-        ensures grows { self.new.top ≤ self.old.top + 1 }
-        ensures room { length self.new.words.now ≡ length self.old.words.now }
+        requires room { length self.old.items < self.old.room }
+        requires enough { Enough s (length self.old.items) }
+        ensures stack { (st : List Shape) → self.old.items ≡ values_at q st → self.new.items ≡ values_at q (after s st) }
+        ensures grows { length self.new.items ≤ length self.old.items + 1 }
+        ensures room { self.new.room ≡ self.old.room }
     {
         match s {
             Step::Half(p) => self.push(p.side_of(q) == Side::Below),
@@ -137,10 +148,7 @@ impl Steps<'_> {
         requires room { length self.words.now ≤ length work.old }
         ensures { (s : Shape) → Fits s → self.entry.words.now ≡ words s → result ≡ holds s q }
     {
-        let mut values = Values {
-            words: work,
-            top: 0,
-        };
+        let mut values = Values::new(work);
         for w in self.words {
             values.apply(Step::from(*w), q);
         }
