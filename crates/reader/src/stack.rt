@@ -89,11 +89,11 @@ impl<'s> Stack<'s> {
     }
 
     /// Takes off what comes first.
-    pub(crate) fn pop(&mut self)
-        requires { 0 < length self.old.wants }
-        ensures { self.new ≡ record self.old { wants = drop 1 self.old.wants } }
+    pub(crate) fn pop(&mut self) -> Option<Want>
+        ensures first { result ≡ slice_get self.old.wants 0 }
+        ensures rest { self.new ≡ record self.old { wants = drop 1 self.old.wants } }
     {
-        self.words.pop();
+        Some(Want::from(self.words.pop()?))
     }
 
     /// Expects this before all else.
