@@ -1,5 +1,4 @@
 pub mod Words
-pub mod Stacks
 pub mod Grow
 pub mod Turn
 pub mod Spans

@@ -1,5 +1,6 @@
--- The stack of what is still expected, as it lies in words: the last of the first `depth` words is what comes first.
-use Rattle.std.specs.Prelude.{◌≡◌, ℕ, zero, suc, ◌/◌, ◌%◌, Bool, true, false, cond, List, [], ◌∷◌, length, Option, ◌==◌, slice_index, option_map, unwrap_or}
+-- The stack of what is still expected, as it lies in a list of words: the last of them is what comes first.
+use Rattle.std.specs.Prelude.{◌≡◌, ℕ, ◌/◌, ◌%◌, Bool, true, false, cond, List, [], ◌∷◌, Option, ◌==◌, map, reverse, option_map, unwrap_or}
+use Rattle.lent.specs.Lists.{Held}
 use Rattle.grammar.specs.declared.types.Sep.TheVariants.{End}
 use Rattle.reader.specs.declared.types.Number.TheVariants.{Start, Minus, Digits}
 use Rattle.reader.specs.declared.types.Want.{Want}
@@ -17,18 +18,14 @@ want_at tag b =
 abbrev pub want_of : ℕ → Want
 want_of x = want_at (x / 256) (x % 256)
 
--- what the first `depth` words say is expected, what comes first in front
-abbrev pub wants_of : ℕ → List ℕ → List Want
-wants_of zero ws = []
-wants_of (suc k) ws = want_of (slice_index ws k) ∷ wants_of k ws
-
 -- what is expected, what comes first in front, and how much fits
 pub record Pile : Type 0 where
   pub wants : List Want
   pub size : ℕ
 
-abbrev pub pile_of : ℕ → List ℕ → Pile
-pile_of depth ws = record { wants = wants_of depth ws; size = length ws }
+-- as it lies in a list of words, the last of which comes first
+abbrev pub pile_of : Held ℕ → Pile
+pile_of words = record { wants = map want_of (reverse words.items); size = words.room }
 
 -- with the bytes so far of the word that is being read
 abbrev pub lift : Want → List ℕ → Sym

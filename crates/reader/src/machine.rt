@@ -151,10 +151,9 @@ fn advance(stack: &mut Stack<'_>, word: &Word<'_>, b: u8) -> Option<()>
     requires ends { (takes_word stack.old.wants && is_word (word.now ++ b ∷ [])) ≡ false }
     ensures { Goes result (step (symbols stack.old.wants word.now) b) stack.old stack.new }
 {
-    let Some(want) = stack.top() else {
+    let Some(want) = stack.pop() else {
         return at_line(stack, b);
     };
-    stack.pop();
     match want {
         Lit(d) => (b == d).then_some(()),
         Want::Number(number, c) => in_number(stack, number, c, b),

@@ -4,6 +4,7 @@ ghost use Rattle.std.specs.Prelude.{◌≡◌, ◌+◌, ◌<◌, ◌≤◌, ◌�
 
 use super::types::{Number, Want};
 use grammar::types::Sep;
+use lent::LentList;
 use std::marker::Model;
 
 // The library has no heap, so what is expected lies in lent words, each its number times 256 and a byte.
@@ -48,23 +49,18 @@ impl From<u64> for Want {
     }
 }
 
-/// What is still expected: the last of the first `depth` words is what comes first.
-// The library has no heap, so the words are lent, and the depth stands beside them.
+/// What is still expected, as words in a list: the last of them is what comes first.
 #[derive(Drop)]
 pub(crate) struct Stack<'s> {
-    words: &'s mut [u64],
-    depth: usize,
+    words: LentList<'s, u64>,
 }
 
 impl<'s> Model for Stack<'s> {
-    ghost use Rattle.std.specs.Prelude.{◌≤◌, length};
     ghost use Rattle.reader.specs.Stack.{Pile, pile_of};
 
     ghost Value = { Pile };
 
-    ghost view = { λ s. pile_of s.depth s.words.now };
-
-    ghost invariant = { λ s. s.depth ≤ length s.words.now };
+    ghost view = { λ s. pile_of s.words };
 }
 
 impl<'s> Stack<'s> {
@@ -72,40 +68,40 @@ impl<'s> Stack<'s> {
     pub(crate) fn new(words: &'s mut [u64]) -> Self
         ensures { result ≡ record { wants = []; size = length words.old } }
     {
-        Stack { words, depth: 0 }
+        Stack {
+            words: LentList::new(words),
+        }
     }
 
     /// Whether nothing is expected.
     pub(crate) fn is_empty(&self) -> bool
         ensures { IsTrue result ↔ (self.now.wants ≡ []) }
     {
-        self.depth == 0
+        self.words.as_slice().is_empty()
     }
 
     /// What comes first.
     pub(crate) fn top(&self) -> Option<Want>
         ensures { result ≡ slice_get self.now.wants 0 }
     {
-        let last = self.depth.checked_sub(1)?;
-        Some(Want::from(self.words[last]))
+        let word = *self.words.as_slice().last()?;
+        Some(Want::from(word))
     }
 
     /// Takes off what comes first.
-    pub(crate) fn pop(&mut self)
-        requires { 0 < length self.old.wants }
-        ensures { self.new ≡ record self.old { wants = drop 1 self.old.wants } }
+    pub(crate) fn pop(&mut self) -> Option<Want>
+        ensures first { result ≡ slice_get self.old.wants 0 }
+        ensures rest { self.new ≡ record self.old { wants = drop 1 self.old.wants } }
     {
-        self.depth -= 1;
+        Some(Want::from(self.words.pop()?))
     }
 
     /// Expects this before all else.
-    #[tactic(auto, using(crate::proofs::Stacks::room_left, crate::proofs::Stacks::room_used, crate::proofs::Stacks::view_pushed))]
     pub(crate) fn push(&mut self, want: Want)
         requires { length self.old.wants < self.old.size }
         ensures { self.new ≡ record self.old { wants = want ∷ self.old.wants } }
     {
-        self.words[self.depth] = u64::from(want);
-        self.depth += 1;
+        self.words.push(u64::from(want));
     }
 
     /// Expects these, one after the other, before all else.

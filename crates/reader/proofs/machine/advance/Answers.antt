@@ -7,11 +7,11 @@ use Rattle.reader.proofs.machine.advance.Goals as goal
 
 pub returns-in-Name : goal.returns-in-Name
 returns-in-Name c =
-    let e = name_next c.args.stack.now.wants c.in-Some.want c.in-Name.c c.args.word.now c.args.b c.in-Some.ensures c.requires.ends c.in-Name.is in
-    (rw (c.then_some-in-Name.ensures, c.ends_name.ensures, c.pop.ensures) e, search rules)
+    let e = name_next c.args.stack.now.wants c.in-Some.want c.in-Name.c c.args.word.now c.args.b c.in-Some.ensures.first c.requires.ends c.in-Name.is in
+    (rw (c.then_some-in-Name.ensures, c.ends_name.ensures, c.pop.ensures.rest) e, search rules)
 
 pub returns-in-Shape : goal.returns-in-Shape
 returns-in-Shape c =
-    let e = shape_next c.args.stack.now.wants c.in-Some.want c.in-Shape.c c.args.word.now c.args.b c.in-Some.ensures c.requires.ends c.in-Shape.is in
-    let k = subst₂ (λ (k : Kind) (p : Pile). Goes c.behind_word.result (behind k c.in-Shape.c c.args.b (symbols p.wants [])) p c.behind_word.new.stack) c.kind.ensures c.pop.ensures c.behind_word.ensures in
+    let e = shape_next c.args.stack.now.wants c.in-Some.want c.in-Shape.c c.args.word.now c.args.b c.in-Some.ensures.first c.requires.ends c.in-Shape.is in
+    let k = subst₂ (λ (k : Kind) (p : Pile). Goes c.behind_word.result (behind k c.in-Shape.c c.args.b (symbols p.wants [])) p c.behind_word.new.stack) c.kind.ensures c.pop.ensures.rest c.behind_word.ensures in
     (e ∙ k.0, k.1)
