@@ -79,7 +79,7 @@ impl<'a, T: Copy> LentList<'a, T> {
         &self.room[..self.used]
     }
 
-    /// What is in the list, which ends with that.
+    /// What is in the list, and ends the list.
     pub fn into_slice(self) -> &'a [T]
         ensures items { result.now ≡ self.entry.items }
         ensures within { length result.now ≤ self.entry.room }

@@ -24,7 +24,7 @@ use reader::types::{Layout, QUESTION_WORDS, Room};
 use solid::types::Steps;
 use types::{Refused, Reply};
 
-/// How many words are lent for the work: each plane of a part is a step, and so is each joint but one.
+/// How many words are lent for the work: each plane of a part is a step, and so is each joint, of which there is one fewer.
 pub const WORK_NEEDED: usize = 400;
 
 /// How many words are lent for the steps of a text of so many bytes, if there can be so many.

@@ -11,7 +11,7 @@ use super::word_list::WordList;
 use lent::LentList;
 
 /// The first fault in the words of bytes; or none, and then where the names of the parts begin. `tokens` are the
-/// first bytes of all words; so many bytes count as read.
+/// first bytes of all words; the first `read` bytes count as read.
 pub(crate) fn check<'w>(
     text: &[u8],
     tokens: &[u64],

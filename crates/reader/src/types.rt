@@ -1,4 +1,4 @@
-//! What the reader expects, and what a byte does.
+//! What the reader expects, the words that are lent for it, and what it hands back.
 
 use grammar::types::Sep;
 
@@ -25,6 +25,7 @@ pub enum Want {
 }
 
 /// The words that are lent for reading a text: for the work, for the steps of its parts, and for its questions.
+// Taken apart at once: each step of the reading borrows its own part, and asks for the room that it fills.
 #[derive(Drop)]
 pub struct Room<'w> {
     pub stack: &'w mut [u64],
