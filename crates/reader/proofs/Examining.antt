@@ -73,12 +73,13 @@ pub told_mapped : (Q : ℕ → Refusal → Type 0) (r : Result ⊤ ℕ) (s : Res
 told_mapped Q (Ok u) s m f = m
 told_mapped Q (Err p) s m f = let e = err_from_is_err_and s m in e.1 ∙ ap (λ (x : Refusal). Err x) (f p _ e.2)
 
-pub reach_below : (bs : List ℕ) (at : ℕ) (r : Result ⊤ ℕ) → Reached r at bs → (at ≡ most_bytes → ⊥) → at < most_bytes
-reach_below bs at r reached n = let i = reached.reaches.inside in go (cases_lt at most_bytes)
+pub not_cut : (bs : List ℕ) (at : ℕ) (r : Result ⊤ ℕ) → Reached r at bs → ((most_bytes < length bs) × (at ≡ most_bytes) → ⊥) → (length bs ≤ most_bytes) ⊎ (at < most_bytes)
+not_cut bs at r reached n = go (cases_lt most_bytes (length bs)) (cases_lt at most_bytes)
   where
-    go : (at < most_bytes) ⊎ (most_bytes ≤ at) → at < most_bytes
-    go (inl h) = h
-    go (inr h) = let i = reached.reaches.inside in let e : at ≡ most_bytes = omega (arith, length-take most_bytes bs) in absurd (n e)
+    go : (most_bytes < length bs) ⊎ (length bs ≤ most_bytes) → (at < most_bytes) ⊎ (most_bytes ≤ at) → (length bs ≤ most_bytes) ⊎ (at < most_bytes)
+    go (inr h) l = inl h
+    go (inl h) (inl l) = inr l
+    go (inl h) (inr l) = let i = reached.reaches.inside in let e : at ≡ most_bytes = omega (arith, length-take most_bytes bs) in absurd (n (h, e))
 
 -- a text without a fault
 module _ (bs : List ℕ) (at : ℕ) (r : Result ⊤ ℕ) (f : Found) (reached : Reached r at bs) (t : Text bs) (short : length bs ≤ most_bytes) (w : Words (Ok f) (seen bs at) (take at bs)) where

@@ -5,7 +5,7 @@ ghost use Rattle.grammar.specs.Faults.{token, beyond, no_scale};
 ghost use Rattle.grammar.specs.Grammar.{is_word, is_name, one_of};
 ghost use Rattle.reader.specs.Scan.{Looked};
 
-use super::spelling::{Word, is_alnum, is_letter};
+use super::spelling::{WORD_LIMIT, Word, is_alnum, is_letter};
 use super::tokens::amount_of;
 use super::types::{Expect, Refusal};
 use super::word_list::WordList;
@@ -50,7 +50,7 @@ fn is_word(word: &[u8]) -> bool
     let Some((first, others)) = word.split_first() else {
         return false;
     };
-    is_letter(*first) && others.len() < 12 && others.iter().all(|b| is_alnum(*b))
+    is_letter(*first) && others.len() < WORD_LIMIT && others.iter().all(|b| is_alnum(*b))
 }
 
 /// Whether the bytes are a name.
@@ -92,6 +92,17 @@ fn is_misnamed(names: &WordList<'_>, used: bool, word: &[u8]) -> bool
     is_name(word) && names.has(word) != used
 }
 
+/// One of the numbers of a place: `left` are before its w.
+fn look_in_place(left: usize, at: usize, word: &[u8]) -> Result<Option<Expect>, Refusal>
+    ensures { (names : List (List ℕ)) → Looked result (Expect.InPlace left) names (token at word.now) }
+{
+    if left == 0 {
+        next_unless(is_no_scale(word), Refusal::Range(at), Expect::AtLine)
+    } else {
+        next_unless(is_beyond(word), Refusal::Range(at), Expect::InPlace(left - 1))
+    }
+}
+
 /// A word where something is expected, behind parts of some names: it is wrong, or it is right, and then what is
 /// expected behind it, if that is looked at.
 pub(crate) fn look(
@@ -125,15 +136,6 @@ pub(crate) fn look(
             Refusal::Name(at),
             Expect::InPlace(COORDINATES),
         ),
-        Expect::InPlace(left) if left == 0 => next_unless(
-            is_no_scale(word),
-            Refusal::Range(at),
-            Expect::AtLine,
-        ),
-        Expect::InPlace(left) => next_unless(
-            is_beyond(word),
-            Refusal::Range(at),
-            Expect::InPlace(left - 1),
-        ),
+        Expect::InPlace(left) => look_in_place(left, at, word),
     }
 }

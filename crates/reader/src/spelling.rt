@@ -8,12 +8,17 @@ use grammar::types::{Kind, Sep};
 use std::marker::Model;
 use std::str::from_utf8;
 
+/// How long a word is at most.
+pub(crate) const WORD_LIMIT: usize = 12;
+
+/// Whether the byte is a letter.
 pub(crate) fn is_letter(b: u8) -> bool
     ensures { result ≡ letter b }
 {
     b.is_ascii_lowercase()
 }
 
+/// Whether the byte is a letter or a digit.
 pub(crate) fn is_alnum(b: u8) -> bool
     ensures { result ≡ alnum b }
 {
@@ -84,7 +89,7 @@ impl<'t> Word<'t> {
         if self.bytes.is_empty() {
             is_letter(b)
         } else {
-            self.bytes.len() < 12 && is_alnum(b)
+            self.bytes.len() < WORD_LIMIT && is_alnum(b)
         }
     }
 

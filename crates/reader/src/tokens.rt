@@ -14,6 +14,7 @@ use plane::types::OFFSET_LIMIT;
 /// The largest size of a number.
 const NUMBER_LIMIT: u64 = OFFSET_LIMIT;
 
+/// Whether the byte is one of a word or a number.
 pub(crate) fn in_token(b: u8) -> bool
     ensures { result ≡ in_tok b }
 {

@@ -33,6 +33,7 @@ pub(crate) struct Found<'t> {
 }
 
 impl<'t> WordList<'t> {
+    /// The words that begin at these bytes.
     pub(crate) fn new(text: &'t [u8], starts: &'t [u64]) -> Self
         requires { InText text.now starts.now }
         ensures { result ≡ words_at text.now starts.now }

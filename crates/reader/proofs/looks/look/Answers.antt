@@ -23,13 +23,3 @@ pub returns-in-InBox-2 : goal.returns-in-InBox-2
 returns-in-InBox-2 c =
     let h : c.in-InBox-2.left ≡ c.in-InBox.left = cc in
     rw (c.next_unless.ensures, c.in-InBox-2.is) (looked_box c.args.names.now (token c.args.at c.args.word.now) c.in-InBox-2.left (omega arith) _ c.is_beyond.ensures)
-
-pub returns-in-InPlace : goal.returns-in-InPlace
-returns-in-InPlace c =
-    rw (c.next_unless-in-InPlace.ensures, c.in-InPlace.is, c.if-left-eq0-2.true) (looked_scale c.args.names.now (token c.args.at c.args.word.now) _ c.is_no_scale.ensures)
-
-pub returns-in-InPlace-2 : goal.returns-in-InPlace-2
-returns-in-InPlace-2 c =
-    let h : c.in-InPlace-2.left ≡ c.in-InPlace.left = cc in
-    rw (c.next_unless-in-InPlace-2.ensures, c.in-InPlace-2.is)
-    (looked_place c.args.names.now (token c.args.at c.args.word.now) c.in-InPlace-2.left (omega arith) _ c.is_beyond-in-InPlace-2.ensures)
