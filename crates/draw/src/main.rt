@@ -67,7 +67,9 @@ fn main(rt: HostRuntime) -> ExitCode {
     match run(&rt) {
         Ok(()) => return ExitCode::SUCCESS,
         Err(Stop::Refused(why)) => {
-            let _ = rt.println(&why);
+            if let Err(error) = rt.println(&why) {
+                let _ = rt.eprintln(&error);
+            }
         }
         Err(Stop::Failed(error)) => {
             let _ = rt.eprintln(&error);

@@ -27,11 +27,18 @@ use types::{Refused, Reply};
 /// How many words are lent for the work: each plane of a part is a step, and so is each joint, of which there is one fewer.
 pub const WORK_NEEDED: usize = 400;
 
+/// How many words the stack of the reader has beside two for each byte.
+const STACK_SPARE: usize = 15;
+
+/// How many words are lent for each byte of a text: two for the stack of the reader, one each for where words begin,
+/// for names and for the parts' spots, two for steps and one for questions.
+const WORDS_FOR_BYTE: usize = 8;
+
 /// How many words are lent for the steps of a text of so many bytes, if there can be so many.
 pub fn steps_for(bytes: usize) -> Option<usize>
     ensures { SomeIff result (steps_needed bytes < 2 ^ 64) (steps_needed bytes) }
 {
-    bytes.checked_mul(8)?.checked_add(15)
+    bytes.checked_mul(WORDS_FOR_BYTE)?.checked_add(STACK_SPARE)
 }
 
 impl<'t, 's> Drawing<'t, 's> {
@@ -43,7 +50,7 @@ impl<'t, 's> Drawing<'t, 's> {
         if lent.len() < steps_for(n).ok_or(Refused::Steps)? {
             return Err(Refused::Steps);
         }
-        let (stack, rest) = lent.split_at_mut(2 * n + 15);
+        let (stack, rest) = lent.split_at_mut(2 * n + STACK_SPARE);
         let (tokens, rest) = rest.split_at_mut(n);
         let (names, rest) = rest.split_at_mut(n);
         let (spots, rest) = rest.split_at_mut(n);
@@ -53,10 +60,8 @@ impl<'t, 's> Drawing<'t, 's> {
             tokens,
             names,
             spots,
-            steps,
-            asked,
         };
-        let layout = reader::read(text, room)?;
+        let layout = reader::read(text, room, steps, asked)?;
         Ok(Drawing { text, layout })
     }
 

@@ -53,5 +53,3 @@ pub record Enough (text : List ℕ) (room : Room) : Type 0 where
   pub tokens : length text ≤ length room.tokens.now
   pub names : length text ≤ length room.names.now
   pub spots : length text ≤ length room.spots.now
-  pub steps : 2 * length text ≤ length room.steps.now
-  pub asked : length text ≤ length room.asked.now

@@ -1,11 +1,11 @@
 -- The stack of what is still expected, as it lies in a list of words: the last of them is what comes first.
-use Rattle.std.specs.Prelude.{◌≡◌, ℕ, ◌/◌, ◌%◌, Bool, true, false, cond, List, [], ◌∷◌, Option, ◌==◌, map, reverse, option_map, unwrap_or}
+use Rattle.std.specs.Prelude.{◌≡◌, ℕ, ◌+◌, ◌/◌, ◌%◌, Bool, true, false, cond, List, [], ◌∷◌, Option, ◌==◌, map, reverse, option_map, unwrap_or}
 use Rattle.lent.specs.Lists.{Held}
 use Rattle.grammar.specs.declared.types.Sep.TheVariants.{End}
 use Rattle.reader.specs.declared.types.Number.TheVariants.{Start, Minus, Digits}
 use Rattle.reader.specs.declared.types.Want.{Want}
 use Rattle.reader.specs.declared.types.Want.TheVariants.{Lit, Number, Name, Shape, AfterP, AfterM}
-use Rattle.grammar.specs.Machine.{Sym, lit, num, minus, digits, name, expr, after_p, after_m, sep_of}
+use Rattle.grammar.specs.Machine.{Sym, lit, num, minus, digits, name, expr, after_p, after_m, sep_of, byte}
 
 -- a word is what is expected, 256 times its number, and a byte: the one expected, or the one that ends it
 abbrev pub want_at : ℕ → ℕ → Want
@@ -17,6 +17,16 @@ want_at tag b =
 
 abbrev pub want_of : ℕ → Want
 want_of x = want_at (x / 256) (x % 256)
+
+abbrev pub word_of : Want → ℕ
+word_of (Lit b) = b
+word_of (Number Start c) = 256 + byte c
+word_of (Number Minus c) = 512 + byte c
+word_of (Number Digits c) = 768 + byte c
+word_of (Name c) = 1024 + byte c
+word_of (Shape c) = 1280 + byte c
+word_of AfterP = 1536
+word_of AfterM = 1792
 
 -- what is expected, what comes first in front, and how much fits
 pub record Pile : Type 0 where

@@ -101,13 +101,13 @@ fn spot_of(names: &WordList<'_>, spots: &[u64], name: &[u8]) -> [u64; 2]
 /// Lines, as they are laid into words: where the steps of each part begin and how many they are, the steps of all
 /// parts, and the questions. Words are all the memory that is lent, so a part is two of them and a question six.
 #[derive(Drop)]
-struct Lines<'w> {
-    spots: LentList<'w, u64>,
+struct Lines<'k, 'w> {
+    spots: LentList<'k, u64>,
     steps: LentList<'w, u64>,
     asked: LentList<'w, u64>,
 }
 
-impl<'w> Lines<'w> {
+impl<'k, 'w> Lines<'k, 'w> {
     /// Of how many parts the lines are laid.
     fn parts(&self) -> usize
         ensures { result ≡ length self.now.spots.items / 2 }
@@ -155,7 +155,7 @@ impl<'w> Lines<'w> {
 /// Lays a text that is taken into words: the steps of its parts, and its questions.
 pub(crate) fn build<'w>(
     found: &Found<'_>,
-    spots: &'w mut [u64],
+    spots: &mut [u64],
     steps: &'w mut [u64],
     asked: &'w mut [u64],
 ) -> Layout<'w>

@@ -54,6 +54,7 @@ impl<'t> Word<'t> {
     pub(crate) fn kind(&self) -> Kind
         ensures { result ≡ kind_of self.now }
     {
+        // As text: a `match` this long over byte strings gets no proof within minutes.
         let Ok(text) = from_utf8(self.bytes) else {
             return Kind::NoWord;
         };

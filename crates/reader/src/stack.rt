@@ -9,9 +9,9 @@ use std::marker::Model;
 
 // The library has no heap, so what is expected lies in lent words, each its number times 256 and a byte.
 impl From<Want> for u64 {
-    ghost use Rattle.reader.specs.Stack.{want_of};
+    ghost use Rattle.reader.specs.Stack.{want_of, word_of};
 
-    ghost from_gives = { λ want word. want_of word ≡ want };
+    ghost from_gives = { λ want word. (word ≡ word_of want) × (want_of word ≡ want) };
 
     fn from(want: Want) -> u64 {
         let (tag, byte) = match want {

@@ -24,16 +24,14 @@ pub enum Want {
     AfterM,
 }
 
-/// The words that are lent for reading a text: for the work, for the steps of its parts, and for its questions.
+/// The words that are lent for the work of reading a text.
 // Taken apart at once: each step of the reading borrows its own part, and asks for the room that it fills.
 #[derive(Drop)]
-pub struct Room<'w> {
-    pub stack: &'w mut [u64],
-    pub tokens: &'w mut [u64],
-    pub names: &'w mut [u64],
-    pub spots: &'w mut [u64],
-    pub steps: &'w mut [u64],
-    pub asked: &'w mut [u64],
+pub struct Room<'k> {
+    pub stack: &'k mut [u64],
+    pub tokens: &'k mut [u64],
+    pub names: &'k mut [u64],
+    pub spots: &'k mut [u64],
 }
 
 /// How many words a question has: where its part's steps begin and how many they are, then x, y, z and w of its place.
