@@ -1,15 +1,15 @@
 -- Names one after the other: which comes first.
-use Rattle.std.proofs.Common.{◌≡◌, ℕ, suc, ◌+◌, ◌<◌, Bool, true, false, cond, ◌&&◌, ◌||◌, eqb, List, [], ◌∷◌, length, get_or, drop, is_some, Some, None, Decides, Option, sym, refl, ap, ◌∙◌, subst, add-zero, add-suc, suc-add, add-one, eq-eqb, arith}
+use Rattle.std.proofs.Common.{◌≡◌, ℕ, suc, ◌+◌, Bool, true, false, cond, not, ◌&&◌, ◌||◌, eqb, ltb, List, [], ◌∷◌, map, length, is_some, Some, None, Decides, Option, sym, refl, ap, ◌∙◌, subst, eq-eqb, arith, le-leb}
+use Prim.Native.Nat.compare
+use Rattle.std.specs.List.{position_or_len}
 use Rattle.std.specs.Cmp.Lexicographic.{pointwise}
 use Rattle.std.specs.Option.{option_map}
-use Rattle.std.proofs.lemmas.List.{drop_more, get_or-map, length-map}
-use Rattle.std.proofs.lemmas.Bool.{cond-true, cond-false, both_ways, and_from}
+use Rattle.std.proofs.lemmas.Bool.{cond-true, both_ways, and_from}
 use Rattle.std.proofs.lemmas.Bool.Decides.{Decides-eqb}
 use Rattle.std.proofs.lemmas.Slice.Eq.{slice_eq-Decides}
 use Rattle.grammar.proofs.Exact.{same_eq}
 use Rattle.grammar.specs.Grammar.{same, one_of}
-use Rattle.grammar.specs.Tokens.{tok_at}
-use Rattle.reader.specs.Names.{words_at, rank}
+use Rattle.reader.specs.Names.{rank}
 
 -- what `==` says of two words
 pub same_from : (xs ys : List ℕ) (r : Bool) → Decides r (xs ≡ ys) → same ys xs ≡ r
@@ -34,32 +34,30 @@ same_pointwise (x ∷ xs) (y ∷ ys) = ap (λ (b : Bool). eqb x y && b) (same_po
 pub told_same : (w k v : List ℕ) (r : Bool) → r ≡ pointwise eqb w v → v ≡ k → same k w ≡ r
 told_same w k v r e f = ap (λ (x : List ℕ). same x w) (sym f) ∙ same_from w v r (slice_eq-Decides Decides-eqb w v r e)
 
--- a rank behind some names
-abbrev pub skipped : ℕ → Option ℕ → Option ℕ
-skipped i o = option_map (λ k. i + k) o
+-- what `==` says of a word that is looked for, and of one that is there
+pub eq_same : (w v u : List ℕ) (r : Bool) → r ≡ pointwise eqb v w → v ≡ u → r ≡ same w u
+eq_same w v u r e f = sym (same_from v w r (slice_eq-Decides Decides-eqb v w r e)) ∙ ap (same w) f
 
-skipped_more : (i : ℕ) (o : Option ℕ) → skipped i (option_map suc o) ≡ skipped (i + 1) o
-skipped_more i None = refl
-skipped_more i (Some k) = ap (λ (n : ℕ). Some n) (add-suc i k ∙ sym (ap (λ (n : ℕ). n + k) (add-one i) ∙ suc-add i k))
+-- the first of some places at whose word it is the same is its rank
+pub rank_first : (f : ℕ → List ℕ) (w : List ℕ) (ps : List ℕ) →
+    cond (ltb (position_or_len (λ s. same w (f s)) ps) (length ps)) (Some (position_or_len (λ s. same w (f s)) ps)) None ≡ rank (map f ps) w
+rank_first f w [] = refl
+rank_first f w (p ∷ ps) = go (same w (f p)) (rank_first f w ps)
+  where
+    n : ℕ
+    n = position_or_len (λ s. same w (f s)) ps
 
-module _ (ws : List (List ℕ)) (word : List ℕ) (i : ℕ) where
-  pub rank_here : i < length ws → same word (get_or ws i []) ≡ true → skipped i (rank (drop i ws) word) ≡ Some i
-  rank_here h e =
-      ap (λ (ns : List (List ℕ)). skipped i (rank ns word)) (drop_more ws i [] h) ∙ ap (skipped i) (cond-true (same word (get_or ws i [])) _ _ e)
-      ∙ ap (λ (n : ℕ). Some n) (add-zero i)
+    move : (b : Bool) → cond b (Some (suc n)) None ≡ option_map suc (cond b (Some n) None)
+    move true = refl
+    move false = refl
 
-  pub rank_later : i < length ws → same word (get_or ws i []) ≡ false → skipped i (rank (drop i ws) word) ≡ skipped (i + 1) (rank (drop (i + 1) ws) word)
-  rank_later h e =
-      ap (λ (ns : List (List ℕ)). skipped i (rank ns word)) (drop_more ws i [] h) ∙ ap (skipped i) (cond-false (same word (get_or ws i [])) _ _ e)
-      ∙ skipped_more i (rank (drop (i + 1) ws) word)
-
--- the word at a number is compared
-pub word_same : (text ps : List ℕ) (ws : List (List ℕ)) (i : ℕ) (v w : List ℕ) (r : Bool) → words_at text ps ≡ ws → i < length ps → v ≡ tok_at (drop (get_or ps i 0) text) →
-    Decides r (v ≡ w) → (i < length ws) × (same w (get_or ws i []) ≡ r)
-word_same text ps ws i v w r e h f d = (
-  let l : length (words_at text ps) ≡ length ps = simp length-map in omega (arith, ap length e),
-  ap (λ (l : List (List ℕ)). same w (get_or l i [])) (sym e) ∙ ap (same w) (get_or-map (λ p. tok_at (drop p text)) ps i 0 [] h ∙ sym f) ∙ same_from v w r d,
-)
+    go : (b : Bool) → cond (ltb n (length ps)) (Some n) None ≡ rank (map f ps) w →
+        cond (ltb (cond (not b) (1 + n) 0) (suc (length ps))) (Some (cond (not b) (1 + n) 0)) None ≡ cond b (Some 0) (option_map suc (rank (map f ps) w))
+    go true e = cond-true (ltb 0 (suc (length ps))) _ _ (le-leb 1 (suc (length ps)) (omega arith))
+    go false e =
+        let one : 1 + n ≡ suc n = omega arith in
+        subst (λ (k : ℕ). cond (ltb k (suc (length ps))) (Some k) None ≡ option_map suc (rank (map f ps) w)) (sym one)
+        (rw compare.suc-suc (move (ltb n (length ps)) ∙ ap (option_map suc) e))
 
 -- a word is among some exactly if it has a rank there
 pub among_rank : (ns : List (List ℕ)) (w : List ℕ) → one_of ns w ≡ is_some (rank ns w)

@@ -47,11 +47,7 @@ fn reach_of(text: &[u8], said: Result<(), usize>) -> usize
 fn seen_of(text: &[u8], at: usize) -> usize
     ensures { result ≡ seen text.now at }
 {
-    if is_cut(text, at) {
-        at - 1
-    } else {
-        at
-    }
+    if is_cut(text, at) { at - 1 } else { at }
 }
 
 /// The words of bytes that begin a text: their first fault, or the words and the names of the parts.

@@ -99,7 +99,11 @@ fn look_in_place(left: usize, at: usize, word: &[u8]) -> Result<Option<Expect>, 
     if left == 0 {
         next_unless(is_no_scale(word), Refusal::Range(at), Expect::AtLine)
     } else {
-        next_unless(is_beyond(word), Refusal::Range(at), Expect::InPlace(left - 1))
+        next_unless(
+            is_beyond(word),
+            Refusal::Range(at),
+            Expect::InPlace(left - 1),
+        )
     }
 }
 

@@ -1,4 +1,4 @@
-use Rattle.std.proofs.Common.{◌≡◌, ◌<◌, ◌≤◌, ◌⊎◌, length, rules}
+use Rattle.std.proofs.Common.{◌≡◌, ◌<◌, length, rules}
 use Rattle.reader.proofs.Examining.{last_long, last_said, told_mapped, not_cut}
 use Rattle.reader.proofs.examine.last_fault.Goals as goal
 

@@ -2,7 +2,7 @@ use Rattle.std.proofs.Common.{sym, not, rules, ◌∙◌, ◌≡◌, arith, ap, 
 use Rattle.grammar.specs.Faults.{token}
 use Rattle.grammar.specs.Grammar.{same}
 use Rattle.reader.proofs.Ranks.{same_pointwise}
-use Rattle.reader.proofs.Tests.{looked_new, looked_used, looked_shape, looked_box, looked_scale, looked_place, looked_over}
+use Rattle.reader.proofs.Tests.{looked_new, looked_used, looked_shape, looked_box, looked_over}
 use Rattle.reader.proofs.looks.look.Goals as goal
 
 pub returns-in-AtNewName : goal.returns-in-AtNewName
