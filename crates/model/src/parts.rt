@@ -10,7 +10,7 @@ use super::types::RawPlace;
 use plane::types::Plane;
 
 /// A kind of part.
-// A byte of a model is a plain number, as in a layout: with a cursor each clause would say too that its model is the same.
+// Where a byte stands is a plain number, as in a layout: with a cursor each clause would say too that its model is the same.
 pub trait Part {
     // What its bytes mean.
     ghost Thing: { Type 0 };
@@ -26,7 +26,7 @@ pub trait Part {
 }
 
 /// The pieces of a model.
-#[derive(Clone, Copy)]
+#[derive(Clone, Copy, Debug, PartialEq, Eq)]
 pub struct Piece;
 
 impl Part for Piece {
@@ -43,7 +43,7 @@ impl Part for Piece {
 }
 
 /// The faces of a model.
-#[derive(Clone, Copy)]
+#[derive(Clone, Copy, Debug, PartialEq, Eq)]
 pub struct Face;
 
 impl Part for Face {

@@ -18,6 +18,7 @@ fn put_list<T: Put + Copy>(out: &mut [u8], things: &[T]) -> usize
     ensures long { result ≡ 2 + T.SIZE * length things.now }
 {
     (things.len() as u16).put(out);
+    // By its number: of chunks that are lent and written, a proof knows only how long they are.
     for (i, thing) in things.iter().enumerate() {
         thing.put(&mut out[u16::SIZE + T::SIZE * i..]);
     }
