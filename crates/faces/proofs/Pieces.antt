@@ -1,4 +1,5 @@
 -- The piece of what of a block lies in the workshop is right; there is none if nothing does.
+--     under, below_both                             below the planes that are left, or below two that look the same way
 --     holds-solid                                   the value of the solid at a place
 --     solid-thick                                   a place in the solid: something of the block lies in the workshop
 --     right_piece, right_none                       the two cases

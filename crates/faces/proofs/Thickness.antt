@@ -1,8 +1,8 @@
 -- A block is thick if it reaches further than where it begins, each way.
---     way_thick, thick_way                          the test, and what it says of each way
+--     Reaches, way_thick, thick_way                 thick along a way, and the test, which says that of each
 --     cut_fits                                      what is left in the workshop is in range
 --     squeezed                                      a place between two planes across a way
---     below_inside, off_inside                      a place that is less far than the block reaches
+--     ShortOf, below_inside, off_inside             a place that is less far than the block reaches
 use Rattle.std.proofs.Common.{◌≡◌, ◌<◌, true, false, ℤ, pos, ◌*ℤ◌, neg_ℤ, ◌≤ℤ◌, ◌<ℤ◌, sym, ap, ◌∙◌, arith}
 use lib.Signed.{lt_z}
 use Rattle.std.proofs.lemmas.Int.{ints, clamps}

@@ -19,7 +19,7 @@ fn whole(x: i64, y: i64, z: i64) -> Place
 
 /// A place turned from x to y to z to x.
 #[tactic(auto, unfolding(plane::specs::Moves::rolled_place))]
-fn turned_place(q: Place) -> Place
+fn rolled_place(q: Place) -> Place
     ensures { result ≡ rolled_place q }
 {
     Place {
@@ -32,14 +32,14 @@ fn turned_place(q: Place) -> Place
 
 impl Rectangle {
     /// The face turned from x to y to z to x.
-    fn turned(self) -> Rectangle
+    fn rolled(self) -> Rectangle
         ensures { result ≡ rolled_face self }
     {
         Rectangle {
             plane: self.plane.rolled(),
             edges: self.edges.map(Plane::rolled),
-            place: turned_place(self.place),
-            corners: self.corners.map(turned_place),
+            place: rolled_place(self.place),
+            corners: self.corners.map(rolled_place),
         }
     }
 }
@@ -95,7 +95,7 @@ impl Block {
     }
 
     /// The block that is this one when it is turned from x to y to z to x.
-    fn turned_back(self) -> Block
+    fn rolled_back(self) -> Block
         ensures { result ≡ rolled_back self }
     {
         let b = self.bounds;
@@ -115,18 +115,18 @@ impl Block {
     pub fn faces(self) -> [Rectangle; 6]
         ensures { result ≡ block_faces self }
     {
-        let c = self.turned_back();
-        let d = c.turned_back();
+        let c = self.rolled_back();
+        let d = c.rolled_back();
         let [east, west] = self.ends();
         let [north, south] = c.ends();
         let [up, down] = d.ends();
         [
             east,
             west,
-            north.turned(),
-            south.turned(),
-            up.turned().turned(),
-            down.turned().turned(),
+            north.rolled(),
+            south.rolled(),
+            up.rolled().rolled(),
+            down.rolled().rolled(),
         ]
     }
 }

@@ -4,6 +4,7 @@ use plane::types::{Place, Plane};
 use std::marker::Model;
 
 /// Everything with x0 < x < x1, y0 < y < y1 and z0 < z < z1.
+// The six numbers stand as the text of a box has them.
 #[derive(Clone, Copy, Debug, PartialEq, Eq)]
 pub struct Bounds {
     pub x0: i64,
