@@ -62,10 +62,10 @@ impl Block {
     {
         let b = self.bounds;
         [
-            whole(x, b.y0, b.z0),
-            whole(x, b.y1, b.z0),
-            whole(x, b.y1, b.z1),
-            whole(x, b.y0, b.z1),
+            whole(x, b.y.low, b.z.low),
+            whole(x, b.y.high, b.z.low),
+            whole(x, b.y.high, b.z.high),
+            whole(x, b.y.low, b.z.high),
         ]
     }
 
@@ -77,18 +77,18 @@ impl Block {
     {
         let b = self.bounds;
         let [high, low, north, south, up, down] = self.walls();
-        let [p, q, r, s] = self.round(b.x0);
+        let [p, q, r, s] = self.round(b.x.low);
         [
             Rectangle {
                 plane: high,
                 edges: [north, south, up, down],
-                place: self.middle_at(b.x1),
-                corners: self.round(b.x1),
+                place: self.middle_at(b.x.high),
+                corners: self.round(b.x.high),
             },
             Rectangle {
                 plane: low,
                 edges: [up, down, north, south],
-                place: self.middle_at(b.x0),
+                place: self.middle_at(b.x.low),
                 corners: [p, s, r, q],
             },
         ]
@@ -101,12 +101,9 @@ impl Block {
         let b = self.bounds;
         Block {
             bounds: Bounds {
-                x0: b.y0,
-                x1: b.y1,
-                y0: b.z0,
-                y1: b.z1,
-                z0: b.x0,
-                z1: b.x1,
+                x: b.y,
+                y: b.z,
+                z: b.x,
             },
         }
     }
