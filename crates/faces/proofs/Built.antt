@@ -31,12 +31,12 @@ parts {p} {r} {es} {fs} {q} {s} {cs} {ds} a b c d =
     ∙ ap (λ (x : Place). record { plane = r; edges = fs; place = x; corners = cs }) c
     ∙ ap (λ (x : List Place). record { plane = r; edges = fs; place = s; corners = x }) d
 
--- a face whose parts are turned
-pub turned_parts : {g f : Face} {p : Plane} {es : List Plane} {q : Place} {cs : List Place} → g ≡ f →
+-- a face whose parts are rolled
+pub rolled_parts : {g f : Face} {p : Plane} {es : List Plane} {q : Place} {cs : List Place} → g ≡ f →
     p ≡ rolled_plane g.plane → es ≡ map rolled_plane g.edges → q ≡ rolled_place g.place → cs ≡ map rolled_place g.corners →
     ◌≡◌ {A = Face} (record { plane = p; edges = es; place = q; corners = cs }) (rolled_face f)
 unfolding rolled_face
-turned_parts h a b c d = parts a b c d ∙ ap rolled_face h
+rolled_parts h a b c d = parts a b c d ∙ ap rolled_face h
 
 -- ---- what `map` makes of an array
 -- each value that it comes to is one of the list

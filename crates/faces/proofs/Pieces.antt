@@ -1,4 +1,5 @@
 -- The piece of what of a block lies in the workshop is right; there is none if nothing does.
+--     under, below_both                             below the planes that are left, or below two that look the same way
 --     holds-solid                                   the value of the solid at a place
 --     solid-thick                                   a place in the solid: something of the block lies in the workshop
 --     right_piece, right_none                       the two cases
@@ -67,11 +68,11 @@ swap_neg m n = omega (arith, ints)
 far_middle : (b : Bounds) (e : Way) → far e (block_piece b).place ≡ bot b e +ℤ top b e
 unfolding block_piece
 far_middle b east = refl
-far_middle b west = swap_neg b.x0 b.x1
+far_middle b west = swap_neg b.x.low b.x.high
 far_middle b north = refl
-far_middle b south = swap_neg b.y0 b.y1
+far_middle b south = swap_neg b.y.low b.y.high
 far_middle b up = refl
-far_middle b down = swap_neg b.z0 b.z1
+far_middle b down = swap_neg b.z.low b.z.high
 
 pub half_way : (f m n : ℤ) → f ≡ m +ℤ n → m <ℤ n → f <ℤ (n *ℤ pos 2)
 half_way f m n e h = omega (arith, ints)

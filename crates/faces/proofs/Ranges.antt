@@ -13,17 +13,18 @@ use Rattle.plane.proofs.Ranges.{rolled_fits}
 use Rattle.solid.specs.Shapes.{plane, planes, box}
 use Rattle.solid.specs.Models.{Face}
 use Rattle.solid.specs.Examples.{at}
+use Rattle.faces.specs.declared.types.Span.{Span}
 use Rattle.faces.specs.declared.types.Bounds.{Bounds}
-use Rattle.faces.specs.Blocks.{block_piece, high_face, low_face, rolled_face, rolled_back, Span, FitsBlock, FitsFace}
+use Rattle.faces.specs.Blocks.{block_piece, high_face, low_face, rolled_face, rolled_back, FitsSpan, FitsBlock, FitsFace}
 use Rattle.faces.proofs.Ways.{Way, east, west, north, south, up, down, toward, normal, top}
 use Rattle.faces.proofs.Sixfold.{all_ways_each}
 
 -- ---- numbers
-module _ (m n : ℤ) (s : Span m n) where
-  pub low_short : Short m reach
+module _ (s : Span) (f : FitsSpan s) where
+  pub low_short : Short s.low reach
   low_short = record { size = omega (arith, ints) }
 
-  pub high_short : Short n reach
+  pub high_short : Short s.high reach
   high_short = record { size = omega (arith, ints) }
 
 sum_short : {m n : ℤ} → Short m reach → Short n reach → Short (m +ℤ n) coordinate_limit
@@ -44,12 +45,12 @@ unit e = eqb-true _ 1 (all_ways_each (λ f. eqb (nat_abs (normal f).a + nat_abs 
 
 module _ (b : Bounds) (f : FitsBlock b) where
   top_short : (e : Way) → Short (top b e) reach
-  top_short east = high_short b.x0 b.x1 f.x
-  top_short west = short_neg (low_short b.x0 b.x1 f.x)
-  top_short north = high_short b.y0 b.y1 f.y
-  top_short south = short_neg (low_short b.y0 b.y1 f.y)
-  top_short up = high_short b.z0 b.z1 f.z
-  top_short down = short_neg (low_short b.z0 b.z1 f.z)
+  top_short east = high_short b.x f.x
+  top_short west = short_neg (low_short b.x f.x)
+  top_short north = high_short b.y f.y
+  top_short south = short_neg (low_short b.y f.y)
+  top_short up = high_short b.z f.z
+  top_short down = short_neg (low_short b.z f.z)
 
   wall_fits : (e : Way) → FitsPlane (toward e (top b e))
   wall_fits e = level (normal e).a (normal e).b (normal e).c (top b e) (unit e) (top_short e)
@@ -66,23 +67,23 @@ corner : {i j k : ℤ} → Short i reach → Short j reach → Short k reach →
 corner i j k = record { x = short_more coordinate_limit i tt; y = short_more coordinate_limit j tt; z = short_more coordinate_limit k tt; w = lit≤ tt; real = lit< tt }
 
 module _ (b : Bounds) (f : FitsBlock b) where
-  x0 : Short b.x0 reach
-  x0 = low_short b.x0 b.x1 f.x
+  x0 : Short b.x.low reach
+  x0 = low_short b.x f.x
 
-  x1 : Short b.x1 reach
-  x1 = high_short b.x0 b.x1 f.x
+  x1 : Short b.x.high reach
+  x1 = high_short b.x f.x
 
-  y0 : Short b.y0 reach
-  y0 = low_short b.y0 b.y1 f.y
+  y0 : Short b.y.low reach
+  y0 = low_short b.y f.y
 
-  y1 : Short b.y1 reach
-  y1 = high_short b.y0 b.y1 f.y
+  y1 : Short b.y.high reach
+  y1 = high_short b.y f.y
 
-  z0 : Short b.z0 reach
-  z0 = low_short b.z0 b.z1 f.z
+  z0 : Short b.z.low reach
+  z0 = low_short b.z f.z
 
-  z1 : Short b.z1 reach
-  z1 = high_short b.z0 b.z1 f.z
+  z1 : Short b.z.high reach
+  z1 = high_short b.z f.z
 
   pub piece_small : SmallPlace (block_piece b).place
   unfolding block_piece

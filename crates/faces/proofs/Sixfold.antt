@@ -1,8 +1,9 @@
 -- What is so of each of the six ways, as one test.
---     all_ways_each, each_all_ways                  the test as said of each way
+--     all_ways, all_ways_each, each_all_ways        the test, and the same as said of each way
 --     all_ways_split                                the test with one way first, the opposite one, and the ways across
 --     all_ways_same, all_ways_both                  tests alike, and two at once
---     across_each, each_across, across_same         the same for the four ways across
+--     Four, across, across_each, each_across,
+--     across_same                                   the same for the four ways across
 use Rattle.std.proofs.Common.{◌≡◌, Bool, true, ◌&&◌, pos, sym, refl, ap, ◌∙◌, ap₂, arith}
 use Rattle.std.proofs.lemmas.Bool.{and_parts, and_from}
 use Rattle.plane.specs.Planes.{same_z, along}

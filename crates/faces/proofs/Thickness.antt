@@ -1,8 +1,8 @@
 -- A block is thick if it reaches further than where it begins, each way.
---     way_thick, thick_way                          the test, and what it says of each way
+--     Reaches, way_thick, thick_way                 thick along a way, and the test, which says that of each
 --     cut_fits                                      what is left in the workshop is in range
 --     squeezed                                      a place between two planes across a way
---     below_inside, off_inside                      a place that is less far than the block reaches
+--     ShortOf, below_inside, off_inside             a place that is less far than the block reaches
 use Rattle.std.proofs.Common.{◌≡◌, ◌<◌, true, false, ℤ, pos, ◌*ℤ◌, neg_ℤ, ◌≤ℤ◌, ◌<ℤ◌, sym, ap, ◌∙◌, arith}
 use lib.Signed.{lt_z}
 use Rattle.std.proofs.lemmas.Int.{ints, clamps}
@@ -11,8 +11,9 @@ use Rattle.arith.proofs.Order.{mul_le}
 use Rattle.arith.proofs.Ring.{neg_*l}
 use Rattle.plane.specs.declared.types.Place.{Place}
 use Rattle.plane.specs.Planes.{same_z, below, on}
+use Rattle.faces.specs.declared.types.Span.{Span}
 use Rattle.faces.specs.declared.types.Bounds.{Bounds}
-use Rattle.faces.specs.Blocks.{low_end, high_end, cut, thick, Span, FitsBlock}
+use Rattle.faces.specs.Blocks.{cut_span, cut, thick, FitsSpan, FitsBlock}
 use Rattle.faces.proofs.Ways.{Way, east, west, north, south, up, down, opp, first, second, toward, far, top, bot, bot-top, far-opp}
 use Rattle.faces.proofs.Sides.{below-far, on-far}
 use Rattle.plane.proofs.Tests.{lt_yes, lt_says}
@@ -29,9 +30,9 @@ abbrev pub Reaches : Bounds → Way → Type 0
 Reaches b e = bot b e <ℤ top b e
 
 module _ (b : Bounds) where
-  full : b.x0 <ℤ b.x1 → b.y0 <ℤ b.y1 → b.z0 <ℤ b.z1 → thick b ≡ true
+  full : b.x.low <ℤ b.x.high → b.y.low <ℤ b.y.high → b.z.low <ℤ b.z.high → thick b ≡ true
   unfolding thick
-  full x y z = and_from (lt_z b.x0 b.x1) _ (lt_yes _ _ x) (and_from (lt_z b.y0 b.y1) _ (lt_yes _ _ y) (lt_yes _ _ z))
+  full x y z = and_from (lt_z b.x.low b.x.high) _ (lt_yes _ _ x) (and_from (lt_z b.y.low b.y.high) _ (lt_yes _ _ y) (lt_yes _ _ z))
 
   pub way_thick : (e : Way) → Reaches b e → Reaches b (first e) → Reaches b (second e) → thick b ≡ true
   way_thick east i j k = full i j k
@@ -49,15 +50,15 @@ module _ (b : Bounds) where
   thick_way f up = f.z.thick
   thick_way f down = turn _ _ f.z.thick
 
-cut_span : (m n : ℤ) → lt_z (low_end m) (high_end n) ≡ true → Span (low_end m) (high_end n)
-cut_span m n h = record { low = omega (arith, ints, clamps); thick = lt_says (low_end m) (high_end n) h; high = omega (arith, ints, clamps) }
+span_fits : (s : Span) → lt_z (cut_span s).low (cut_span s).high ≡ true → FitsSpan (cut_span s)
+span_fits s h = record { low = omega (arith, ints, clamps); thick = lt_says (cut_span s).low (cut_span s).high h; high = omega (arith, ints, clamps) }
 
 pub cut_fits : (b : Bounds) → thick (cut b) ≡ true → FitsBlock (cut b)
 unfolding thick cut
 cut_fits b h =
     let k = and_parts _ _ h in
     let l = and_parts _ _ k.1 in
-    record { x = cut_span b.x0 b.x1 k.0; y = cut_span b.y0 b.y1 l.0; z = cut_span b.z0 b.z1 l.1 }
+    record { x = span_fits b.x k.0; y = span_fits b.y l.0; z = span_fits b.z l.1 }
 
 -- ---- places
 between : (u v f g h : ℤ) → u ≡ neg_ℤ h → g ≡ neg_ℤ f → f <ℤ v → g <ℤ h → u <ℤ v

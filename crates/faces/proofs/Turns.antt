@@ -1,6 +1,6 @@
 -- Round a face: the turn from an edge to each other corner, counter-clockwise as seen from outside.
---     turn-seen                                     leftward, as the face sees it
---     turns_positive                                the turns of a rectangle
+--     turn, turn-seen                               the turn at a corner: leftward, as the face sees it
+--     spot, turns_positive                          the corners of a rectangle, and their turns
 use Rattle.std.proofs.Common.{◌≡◌, ℕ, zero, suc, ◌<◌, ◌⊎◌, [], ◌∷◌, get_or, ℤ, pos, ◌-ℤ◌, ◌*ℤ◌, neg_ℤ, ◌<ℤ◌, sym, refl, ◌∙◌, subst, inl, inr, arith}
 use Rattle.std.proofs.lemmas.Int.{ints}
 use Rattle.std.proofs.lemmas.Bool.Decides.{nat_tests}

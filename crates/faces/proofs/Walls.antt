@@ -1,5 +1,6 @@
 -- The planes of a box within the workshop.
 --     by-solid                                      the value of the solid
+--     listed                                        planes that look each way
 --     has_solid, solid_has                          its planes: which they are, and that what is left of the box ends at some of them
 use Rattle.std.proofs.Common.{◌≡◌, Bool, ◌&&◌, ◌⊎◌, List, ◌++◌, map, ℤ, pos, ◌≤ℤ◌, sym, refl, subst, inl, inr, arith}
 use Rattle.std.specs.Int.{int_min}

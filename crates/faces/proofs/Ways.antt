@@ -73,20 +73,20 @@ far up q = q.z
 far down q = neg_ℤ q.z
 
 abbrev pub top : Bounds → Way → ℤ
-top b east = b.x1
-top b west = neg_ℤ b.x0
-top b north = b.y1
-top b south = neg_ℤ b.y0
-top b up = b.z1
-top b down = neg_ℤ b.z0
+top b east = b.x.high
+top b west = neg_ℤ b.x.low
+top b north = b.y.high
+top b south = neg_ℤ b.y.low
+top b up = b.z.high
+top b down = neg_ℤ b.z.low
 
 abbrev pub bot : Bounds → Way → ℤ
-bot b east = b.x0
-bot b west = neg_ℤ b.x1
-bot b north = b.y0
-bot b south = neg_ℤ b.y1
-bot b up = b.z0
-bot b down = neg_ℤ b.z1
+bot b east = b.x.low
+bot b west = neg_ℤ b.x.high
+bot b north = b.y.low
+bot b south = neg_ℤ b.y.high
+bot b up = b.z.low
+bot b down = neg_ℤ b.z.high
 
 -- ---- what holds of each way
 pub far-opp : (e : Way) (q : Place) → far (opp e) q ≡ neg_ℤ (far e q)
@@ -98,11 +98,11 @@ far-opp up q = refl
 far-opp down q = sym (neg_ℤ-neg_ℤ q.z)
 
 pub bot-top : (b : Bounds) (e : Way) → bot b e ≡ neg_ℤ (top b (opp e))
-bot-top b east = sym (neg_ℤ-neg_ℤ b.x0)
+bot-top b east = sym (neg_ℤ-neg_ℤ b.x.low)
 bot-top b west = refl
-bot-top b north = sym (neg_ℤ-neg_ℤ b.y0)
+bot-top b north = sym (neg_ℤ-neg_ℤ b.y.low)
 bot-top b south = refl
-bot-top b up = sym (neg_ℤ-neg_ℤ b.z0)
+bot-top b up = sym (neg_ℤ-neg_ℤ b.z.low)
 bot-top b down = refl
 
 pub turned-toward : (e : Way) (d : ℤ) → turned (toward e d) ≡ toward (opp e) (neg_ℤ d)
@@ -133,11 +133,11 @@ high_neg n = omega (arith, ints, clamps)
 pub top-cut : (b : Bounds) (e : Way) → top (cut b) e ≡ int_min (top b e) (pos reach)
 unfolding cut
 top-cut b east = refl
-top-cut b west = high_neg b.x0
+top-cut b west = high_neg b.x.low
 top-cut b north = refl
-top-cut b south = high_neg b.y0
+top-cut b south = high_neg b.y.low
 top-cut b up = refl
-top-cut b down = high_neg b.z0
+top-cut b down = high_neg b.z.low
 
 -- ---- a block's planes and faces by the ways
 pub planes-ways : (b : Bounds) → planes (as_shape b) ≡ map (λ e. toward e (top b e)) ways
@@ -185,8 +185,8 @@ neg_twice n = omega (arith, ints)
 pub made : (b : Bounds) (e : Way) → Made b e (face_at b e)
 unfolding face_at high_face low_face rolled_face rolled_plane rolled_place
 made b east = record { plane = refl; edges = refl; ahead = _; twice = refl; place = refl; corners = refl }
-made b west = record { plane = refl; edges = refl; ahead = _; twice = neg_twice b.x0; place = refl; corners = refl }
+made b west = record { plane = refl; edges = refl; ahead = _; twice = neg_twice b.x.low; place = refl; corners = refl }
 made b north = record { plane = refl; edges = refl; ahead = _; twice = refl; place = refl; corners = refl }
-made b south = record { plane = refl; edges = refl; ahead = _; twice = neg_twice b.y0; place = refl; corners = refl }
+made b south = record { plane = refl; edges = refl; ahead = _; twice = neg_twice b.y.low; place = refl; corners = refl }
 made b up = record { plane = refl; edges = refl; ahead = _; twice = refl; place = refl; corners = refl }
-made b down = record { plane = refl; edges = refl; ahead = _; twice = neg_twice b.z0; place = refl; corners = refl }
+made b down = record { plane = refl; edges = refl; ahead = _; twice = neg_twice b.z.low; place = refl; corners = refl }

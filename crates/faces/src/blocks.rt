@@ -1,13 +1,13 @@
 //! What of a box lies in the workshop: a block, and the piece that it is.
 
-ghost use Rattle.std.specs.Prelude.{◌≡◌};
+ghost use Rattle.std.specs.Prelude.{◌≡◌, int_lt};
 ghost use Rattle.std.specs.List.{AllByRecursion};
 ghost use Rattle.plane.specs.Limits.{FitsPlane, SmallPlace};
 ghost use Rattle.solid.specs.Shapes.{solid, plane as plane_by};
 ghost use Rattle.solid.specs.Models.{Right};
-ghost use Rattle.faces.specs.Blocks.{as_shape, cut, thick, left_of, box_model, block_piece};
+ghost use Rattle.faces.specs.Blocks.{as_shape, cut_span, cut, thick, left_of, box_model, block_piece};
 
-use super::types::{Block, Bounds};
+use super::types::{Block, Bounds, Span};
 use plane::types::{Place, Plane, REACH};
 
 /// Where the workshop ends.
@@ -20,27 +20,44 @@ fn by_numbers(a: i64, b: i64, c: i64, d: i64) -> Plane
     Plane { a, b, c, d }
 }
 
+impl Span {
+    /// What lies in the workshop.
+    fn cut_off(self) -> Span
+        ensures { result ≡ cut_span self }
+    {
+        Span {
+            low: self.low.max(-END),
+            high: self.high.min(END),
+        }
+    }
+
+    /// Whether there are numbers within it.
+    fn is_thick(self) -> bool
+        ensures { result ≡ int_lt self.low self.high }
+    {
+        self.low < self.high
+    }
+}
+
 impl Bounds {
     /// What lies in the workshop.
+    #[tactic(auto, unfolding(crate::specs::Blocks::cut))]
     fn cut_off(self) -> Bounds
         ensures { result ≡ cut self }
     {
         Bounds {
-            x0: self.x0.max(-END),
-            x1: self.x1.min(END),
-            y0: self.y0.max(-END),
-            y1: self.y1.min(END),
-            z0: self.z0.max(-END),
-            z1: self.z1.min(END),
+            x: self.x.cut_off(),
+            y: self.y.cut_off(),
+            z: self.z.cut_off(),
         }
     }
 
     /// Whether there are places within them.
-    #[tactic(auto, using(std::proofs::lemmas::Int::ints), unfolding(crate::specs::Blocks::thick))]
+    #[tactic(auto, unfolding(crate::specs::Blocks::thick))]
     fn is_thick(self) -> bool
         ensures { result ≡ thick self }
     {
-        self.x0 < self.x1 && self.y0 < self.y1 && self.z0 < self.z1
+        self.x.is_thick() && self.y.is_thick() && self.z.is_thick()
     }
 }
 
@@ -66,12 +83,12 @@ impl Block {
     {
         let b = self.bounds;
         [
-            by_numbers(1, 0, 0, b.x1),
-            by_numbers(-1, 0, 0, -b.x0),
-            by_numbers(0, 1, 0, b.y1),
-            by_numbers(0, -1, 0, -b.y0),
-            by_numbers(0, 0, 1, b.z1),
-            by_numbers(0, 0, -1, -b.z0),
+            by_numbers(1, 0, 0, b.x.high),
+            by_numbers(-1, 0, 0, -b.x.low),
+            by_numbers(0, 1, 0, b.y.high),
+            by_numbers(0, -1, 0, -b.y.low),
+            by_numbers(0, 0, 1, b.z.high),
+            by_numbers(0, 0, -1, -b.z.low),
         ]
     }
 
@@ -82,9 +99,9 @@ impl Block {
     {
         let b = self.bounds;
         Place {
-            x: b.x0 + b.x1,
-            y: b.y0 + b.y1,
-            z: b.z0 + b.z1,
+            x: b.x.low + b.x.high,
+            y: b.y.low + b.y.high,
+            z: b.z.low + b.z.high,
             w: 2,
         }
     }

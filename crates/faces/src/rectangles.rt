@@ -19,7 +19,7 @@ fn whole(x: i64, y: i64, z: i64) -> Place
 
 /// A place turned from x to y to z to x.
 #[tactic(auto, unfolding(plane::specs::Moves::rolled_place))]
-fn turned_place(q: Place) -> Place
+fn rolled_place(q: Place) -> Place
     ensures { result ≡ rolled_place q }
 {
     Place {
@@ -32,14 +32,14 @@ fn turned_place(q: Place) -> Place
 
 impl Rectangle {
     /// The face turned from x to y to z to x.
-    fn turned(self) -> Rectangle
+    fn rolled(self) -> Rectangle
         ensures { result ≡ rolled_face self }
     {
         Rectangle {
             plane: self.plane.rolled(),
             edges: self.edges.map(Plane::rolled),
-            place: turned_place(self.place),
-            corners: self.corners.map(turned_place),
+            place: rolled_place(self.place),
+            corners: self.corners.map(rolled_place),
         }
     }
 }
@@ -62,10 +62,10 @@ impl Block {
     {
         let b = self.bounds;
         [
-            whole(x, b.y0, b.z0),
-            whole(x, b.y1, b.z0),
-            whole(x, b.y1, b.z1),
-            whole(x, b.y0, b.z1),
+            whole(x, b.y.low, b.z.low),
+            whole(x, b.y.high, b.z.low),
+            whole(x, b.y.high, b.z.high),
+            whole(x, b.y.low, b.z.high),
         ]
     }
 
@@ -77,36 +77,33 @@ impl Block {
     {
         let b = self.bounds;
         let [high, low, north, south, up, down] = self.walls();
-        let [p, q, r, s] = self.round(b.x0);
+        let [p, q, r, s] = self.round(b.x.low);
         [
             Rectangle {
                 plane: high,
                 edges: [north, south, up, down],
-                place: self.middle_at(b.x1),
-                corners: self.round(b.x1),
+                place: self.middle_at(b.x.high),
+                corners: self.round(b.x.high),
             },
             Rectangle {
                 plane: low,
                 edges: [up, down, north, south],
-                place: self.middle_at(b.x0),
+                place: self.middle_at(b.x.low),
                 corners: [p, s, r, q],
             },
         ]
     }
 
     /// The block that is this one when it is turned from x to y to z to x.
-    fn turned_back(self) -> Block
+    fn rolled_back(self) -> Block
         ensures { result ≡ rolled_back self }
     {
         let b = self.bounds;
         Block {
             bounds: Bounds {
-                x0: b.y0,
-                x1: b.y1,
-                y0: b.z0,
-                y1: b.z1,
-                z0: b.x0,
-                z1: b.x1,
+                x: b.y,
+                y: b.z,
+                z: b.x,
             },
         }
     }
@@ -115,18 +112,18 @@ impl Block {
     pub fn faces(self) -> [Rectangle; 6]
         ensures { result ≡ block_faces self }
     {
-        let c = self.turned_back();
-        let d = c.turned_back();
+        let c = self.rolled_back();
+        let d = c.rolled_back();
         let [east, west] = self.ends();
         let [north, south] = c.ends();
         let [up, down] = d.ends();
         [
             east,
             west,
-            north.turned(),
-            south.turned(),
-            up.turned().turned(),
-            down.turned().turned(),
+            north.rolled(),
+            south.rolled(),
+            up.rolled().rolled(),
+            down.rolled().rolled(),
         ]
     }
 }

@@ -3,15 +3,19 @@
 use plane::types::{Place, Plane};
 use std::marker::Model;
 
-/// Everything with x0 < x < x1, y0 < y < y1 and z0 < z < z1.
+/// All numbers n with low < n < high.
+#[derive(Clone, Copy, Debug, PartialEq, Eq)]
+pub struct Span {
+    pub low: i64,
+    pub high: i64,
+}
+
+/// Everything with x, y and z within these spans.
 #[derive(Clone, Copy, Debug, PartialEq, Eq)]
 pub struct Bounds {
-    pub x0: i64,
-    pub x1: i64,
-    pub y0: i64,
-    pub y1: i64,
-    pub z0: i64,
-    pub z1: i64,
+    pub x: Span,
+    pub y: Span,
+    pub z: Span,
 }
 
 /// A block: there are places within its bounds, and all of them are in the workshop.

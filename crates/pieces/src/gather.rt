@@ -8,17 +8,17 @@ ghost use Rattle.pieces.specs.Questions.{planes_of_two};
 use super::parts::Parts;
 use lent::LentList;
 use plane::types::Plane;
-use solid::types::Step;
+use solid::types::{Step, Steps};
 use solid::value::walls;
 
 /// Puts the planes of steps behind those of the list.
-fn gather(words: &[u64], planes: &mut LentList<Plane>)
-    requires { length planes.old.items + length words.now ≤ planes.old.room }
-    ensures few { length planes.new.items ≤ length planes.old.items + length words.now }
-    ensures are { planes.new.items ≡ planes.old.items ++ word_planes words.now }
+fn gather(steps: Steps<'_>, planes: &mut LentList<Plane>)
+    requires { length planes.old.items + length steps.words.now ≤ planes.old.room }
+    ensures few { length planes.new.items ≤ length planes.old.items + length steps.entry.words.now }
+    ensures are { planes.new.items ≡ planes.old.items ++ word_planes steps.entry.words.now }
     ensures room { planes.new.room ≡ planes.old.room }
 {
-    for w in words {
+    for w in steps.words {
         if let Step::Half(p) = Step::from(*w) {
             planes.push(p);
         }
@@ -34,7 +34,7 @@ pub(crate) fn gather_two<'m>(parts: &Parts<'_>, slots: &'m mut [Plane]) -> &'m [
 {
     let mut planes = LentList::new(slots);
     planes.extend_from_slice(&walls());
-    gather(parts.first.words, &mut planes);
-    gather(parts.second.words, &mut planes);
+    gather(parts.first, &mut planes);
+    gather(parts.second, &mut planes);
     planes.into_slice()
 }

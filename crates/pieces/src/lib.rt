@@ -16,31 +16,34 @@ use plane::types::Place;
 use questions::{Difference, Join, Joined, Overlap};
 use search::places::find;
 
-/// A place off the planes where the answers of two parts, joined, hold, if there is one.
-fn place_where<J: Join + Drop>(join: J, parts: &Parts<'_>, room: Room<'_>) -> Option<Place>
-    requires { RoomFor parts.now room }
-    ensures { let s = shape_of parts.now.first in let t = shape_of parts.now.second in
-        Found (Off (planes_of_two s t)) (joined_in J.joined s t) result }
-{
-    let Room { planes, lent, work } = room;
-    let planes = gather_two(parts, planes);
-    find(&Joined { parts, join }, planes, lent, work)
-}
+// A value of the parts and the room, with `RoomFor` as its invariant, would be made only to be taken apart.
+impl Parts<'_> {
+    /// A place off the planes where the answers of the two parts, joined, hold, if there is one.
+    fn place_where<J: Join + Drop>(&self, join: J, room: Room<'_>) -> Option<Place>
+        requires { RoomFor self.now room }
+        ensures { let s = shape_of self.now.first in let t = shape_of self.now.second in
+            Found (Off (planes_of_two s t)) (joined_in J.joined s t) result }
+    {
+        let Room { planes, lent, work } = room;
+        let planes = gather_two(self, planes);
+        find(&Joined { parts: self, join }, planes, lent, work)
+    }
 
-/// A place off the planes where two parts differ, if there is one.
-pub fn difference(parts: &Parts<'_>, room: Room<'_>) -> Option<Place>
-    requires { RoomFor parts.now room }
-    ensures { let s = shape_of parts.now.first in let t = shape_of parts.now.second in
-        Found (Off (planes_of_two s t)) (in_one s t) result }
-{
-    place_where(Difference, parts, room)
-}
+    /// A place off the planes where the two parts differ, if there is one.
+    pub fn difference(&self, room: Room<'_>) -> Option<Place>
+        requires { RoomFor self.now room }
+        ensures { let s = shape_of self.now.first in let t = shape_of self.now.second in
+            Found (Off (planes_of_two s t)) (in_one s t) result }
+    {
+        self.place_where(Difference, room)
+    }
 
-/// A place off the planes that two parts share, if there is one.
-pub fn overlap(parts: &Parts<'_>, room: Room<'_>) -> Option<Place>
-    requires { RoomFor parts.now room }
-    ensures { let s = shape_of parts.now.first in let t = shape_of parts.now.second in
-        Found (Off (planes_of_two s t)) (in_two s t) result }
-{
-    place_where(Overlap, parts, room)
+    /// A place off the planes that the two parts share, if there is one.
+    pub fn overlap(&self, room: Room<'_>) -> Option<Place>
+        requires { RoomFor self.now room }
+        ensures { let s = shape_of self.now.first in let t = shape_of self.now.second in
+            Found (Off (planes_of_two s t)) (in_two s t) result }
+    {
+        self.place_where(Overlap, room)
+    }
 }

@@ -20,6 +20,7 @@ fn is_inside(steps: Steps<'_>, q: Place, work: &mut [u64]) -> bool
 }
 
 /// How the answers of two parts are joined to one.
+// A trait, since the clauses of both name the operation: a closure's law would have to be shown at each call.
 pub trait Join {
     ghost joined: { Bool → Bool → Bool };
 

@@ -1,10 +1,12 @@
 -- Level planes by their axis.
---     number_some, number_slope, number_is           the number of a plane along an axis
+--     number_some, number_slope, number_is,
+--     number_none                                    the number of a plane along an axis
 --     slope_size, number_short, then_short           how large slopes and numbers are
---     axis_of                                        each level plane has an axis
+--     axis_of, Only, number_only                     each level plane has an axis, and no slope along the others
 --     rise, height_along                             how far a place is past a number, and the plane's height by that
 --     on-rise, rise-on                               on the plane: at its number
---     along_only, way, ways, same_way-along          level planes of one axis lie the same way, or turned
+--     along_only, only_turned, way, ways,
+--     same_way-along                                 level planes of one axis lie the same way, or turned
 use Rattle.std.proofs.Common.{◌≡◌, ℕ, zero, suc, ◌≤◌, Bool, true, false, ◌&&◌, ◌⊎◌, ℤ, pos, negsuc, ◌-ℤ◌, ◌*ℤ◌, neg_ℤ, nat_abs, ◌<ℤ◌, IfSome, Some, None, sym, refl, ap, ◌∙◌, subst, inl, inr, arith}
 use lib.IntN.{*ℤ-zero}
 use lib.Signed.{lt_z}

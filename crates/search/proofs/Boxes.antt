@@ -1,5 +1,5 @@
 -- Shapes whose planes are all level.
---     level_half, level_both                         put together from level half-spaces
+--     Levels, level_half, level_both                 put together from level half-spaces
 --     box_level                                      boxes, and so the workshop
 use Rattle.std.proofs.Common.{[], ℤ, refl, subst, inl, inr}
 use Rattle.plane.specs.declared.types.Plane.{Plane}

@@ -1,9 +1,9 @@
 -- The doubled coordinates between the level planes of an axis, as they are written and as they are used.
 --     one_more, none_more                            the words that a loop writes
---     middle_from                                    what the middles come from
+--     Behind, middle_from                            what the middles come from
 --     middles_short, twice_short                     how large they are
 --     odd                                            none is at a number
---     choose                                         one is on the same side of each number as a place that is at none
+--     Chosen, Between, choose                        one is on the same side of each number as a place that is at none
 use Rattle.std.proofs.Common.{◌≡◌, ℕ, ◌+◌, ◌<◌, ◌≤◌, ◌⊎◌, List, [], ◌∷◌, ◌++◌, length, get_or, take, ℤ, pos, ◌+ℤ◌, ◌-ℤ◌, ◌*ℤ◌, nat_abs, ◌≤ℤ◌, ◌<ℤ◌, Some, None, Option, sym, refl, ap, ◌∙◌, subst, ap₂, inl, inr, append_assoc, arith, lit≤, w64, to_z}
 use lib.Signed.{<ℤ_irrefl}
 use Rattle.std.proofs.lemmas.List.{take_more, map-append, append-nil}

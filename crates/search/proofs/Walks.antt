@@ -1,20 +1,16 @@
 -- Places whose doubled coordinates stand in three lists.
 use Rattle.std.proofs.Common.{◌≡◌, ℕ, ◌<◌, Bool, false, List, length, get_or, ℤ, sym, refl, ap, ◌∙◌, w64, to_z}
 use Rattle.std.proofs.lemmas.List.{get_or_default}
-use Rattle.arith.specs.Bounds.{Short}
 use Rattle.plane.specs.declared.types.Place.{Place}
 use Rattle.solid.specs.Shapes.{Has}
 use Rattle.solid.proofs.Members.{has_read, has_map, map_has}
-use Rattle.search.specs.Levels.{numbers, halved, spot_limit, AllShort, Listed}
+use Rattle.search.specs.Levels.{numbers, halved, Listed}
 
 abbrev pub spot : List ℕ → List ℕ → List ℕ → ℕ → ℕ → ℕ → Place
 spot xs ys zs i j k = halved (to_z w64 (get_or xs i 0)) (to_z w64 (get_or ys j 0)) (to_z w64 (get_or zs k 0))
 
 has_number : (ws : List ℕ) (i : ℕ) → i < length ws → Has (numbers ws) (to_z w64 (get_or ws i 0))
 has_number ws i h = has_map (to_z w64) (get_or ws i 0) ws (has_read ws i 0 h)
-
-pub short_at : (ws : List ℕ) (i : ℕ) → AllShort (numbers ws) → i < length ws → Short (to_z w64 (get_or ws i 0)) spot_limit
-short_at ws i s h = s _ (has_number ws i h)
 
 pub spot_listed : (xs ys zs : List ℕ) (i j k : ℕ) → i < length xs → j < length ys → k < length zs → Listed (numbers xs) (numbers ys) (numbers zs) (spot xs ys zs i j k)
 spot_listed xs ys zs i j k h l m = record { x = has_number xs i h; y = has_number ys j l; z = has_number zs k m; w = refl }

@@ -1,4 +1,5 @@
 //! What is special to level planes: the numbers of x, y and z that stand for all, and a walk over them.
+// Coordinates are kept as words and cast, since the memory that callers lend is words.
 
 ghost use Rattle.std.specs.Prelude.{◌≡◌, ◌<◌, ◌≤◌, length, pos, ◌+ℤ◌, ◌*ℤ◌, IfSome};
 ghost use Rattle.std.specs.Int.{w64, cast_signed};

@@ -6,7 +6,7 @@ use Rattle.pieces.proofs.gather.gather.Goals.{in-Half, in_default}
 
 pub loop-w-preserved : goal.loop-w-preserved
 loop-w-preserved c =
-    let ws = c.args.words.now in
+    let ws = c.args.steps.words.now in
     let v = c.loop-w.invariant in
     elim c.match-from.branch [
       | in-Half w ↦
@@ -19,4 +19,4 @@ loop-w-preserved c =
 
 pub returns-clause-are : goal.returns-clause-are
 returns-clause-are c =
-    no_more c.args.words.now c.loop-w.planes.items c.loop-w.w-index _ c.loop-w-test.false c.loop-w.invariant.2
+    no_more c.args.steps.words.now c.loop-w.planes.items c.loop-w.w-index _ c.loop-w-test.false c.loop-w.invariant.2

@@ -7,4 +7,4 @@ abbrev pub invariant-loop-w : goal.invariant-loop-w
 invariant-loop-w l =
     (length l.planes.items ≤ length l.initial.planes.items + l.w-index)
     × (l.planes.room ≡ l.initial.planes.room)
-    × (l.planes.items ++ word_planes (drop l.w-index l.words) ≡ l.initial.planes.items ++ word_planes l.words)
+    × (l.planes.items ++ word_planes (drop l.w-index l.steps.words.now) ≡ l.initial.planes.items ++ word_planes l.steps.words.now)

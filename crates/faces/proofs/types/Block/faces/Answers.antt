@@ -6,15 +6,15 @@ pub returns : goal.returns
 unfolding block_faces
 returns c =
     rw (
-      c.turned.ensures,
-      c.turned-2.ensures,
-      c.turned-4.ensures,
-      c.turned-3.ensures,
-      c.turned-6.ensures,
-      c.turned-5.ensures,
+      c.rolled.ensures,
+      c.rolled-2.ensures,
+      c.rolled-4.ensures,
+      c.rolled-3.ensures,
+      c.rolled-6.ensures,
+      c.rolled-5.ensures,
       c.ends.ensures,
       c.ends-2.ensures,
       c.ends-3.ensures,
-      c.turned_back-d.ensures,
-      c.turned_back-c.ensures,
+      c.rolled_back-d.ensures,
+      c.rolled_back-c.ensures,
     ) refl

@@ -4,12 +4,12 @@ use Rattle.solid.specs.Stacks.{shape_of}
 use Rattle.search.specs.Search.{Agree}
 use Rattle.pieces.specs.Questions.{Room}
 use Rattle.pieces.proofs.Sides.{joined_agree}
-use Rattle.pieces.proofs.place_where.Goals as goal
+use Rattle.pieces.proofs.parts.Parts.place_where.Goals as goal
 
 pub find-requires : goal.find-requires
 find-requires g c =
-    let s = shape_of c.args.parts.now.first in
-    let t = shape_of c.args.parts.now.second in
+    let s = shape_of c.args.self.now.first in
+    let t = shape_of c.args.self.now.second in
     let n = ap (λ (r : Room). r.planes) c.room.view_is in
     let m = ap (λ (r : Room). r.lent) c.room.view_is in
     let w = ap (λ (r : Room). r.work) c.room.view_is in
