@@ -19,18 +19,23 @@ use search::places::find;
 // A value of the parts and the room, with `RoomFor` as its invariant, would be made only to be taken apart.
 impl Parts<'_> {
     /// A place off the planes where the answers of the two parts, joined, hold, if there is one.
-    fn place_where<J: Join + Drop>(&self, join: J, room: Room<'_>) -> Option<Place>
+    fn place_where<J: Join + Drop>(&self, join: J, room: Room<'_, '_, '_>) -> Option<Place>
         requires { RoomFor self.now room }
         ensures { let s = shape_of self.now.first in let t = shape_of self.now.second in
             Found (Off (planes_of_two s t)) (joined_in J.joined s t) result }
     {
         let Room { planes, lent, work } = room;
         let planes = gather_two(self, planes);
-        find(&Joined { parts: self, join }, planes, lent, work)
+        let joined = Joined {
+            first: self.first,
+            second: self.second,
+            join,
+        };
+        find(&joined, planes, lent, work)
     }
 
     /// A place off the planes where the two parts differ, if there is one.
-    pub fn difference(&self, room: Room<'_>) -> Option<Place>
+    pub fn difference(&self, room: Room<'_, '_, '_>) -> Option<Place>
         requires { RoomFor self.now room }
         ensures { let s = shape_of self.now.first in let t = shape_of self.now.second in
             Found (Off (planes_of_two s t)) (in_one s t) result }
@@ -39,7 +44,7 @@ impl Parts<'_> {
     }
 
     /// A place off the planes that the two parts share, if there is one.
-    pub fn overlap(&self, room: Room<'_>) -> Option<Place>
+    pub fn overlap(&self, room: Room<'_, '_, '_>) -> Option<Place>
         requires { RoomFor self.now room }
         ensures { let s = shape_of self.now.first in let t = shape_of self.now.second in
             Found (Off (planes_of_two s t)) (in_two s t) result }

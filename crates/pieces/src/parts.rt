@@ -25,14 +25,14 @@ impl<'s> Model for Parts<'s> {
 /// Lent memory: for the planes of the parts and of the workshop, for coordinates that are tried, and for values
 /// of the parts.
 #[derive(Drop)]
-pub struct Room<'m> {
-    pub planes: &'m mut [Plane],
-    pub lent: &'m mut [u64],
-    pub work: &'m mut [u64],
+pub struct Room<'p, 'l, 'w> {
+    pub planes: &'p mut [Plane],
+    pub lent: &'l mut [u64],
+    pub work: &'w mut [u64],
 }
 
 // Clauses see how much of each there is.
-impl<'m> Model for Room<'m> {
+impl<'p, 'l, 'w> Model for Room<'p, 'l, 'w> {
     ghost use Rattle.std.specs.Prelude.{length};
     ghost use Rattle.pieces.specs.Questions.{Room};
 

@@ -5,7 +5,6 @@ ghost use Rattle.plane.specs.Limits.{SmallPlace};
 ghost use Rattle.solid.specs.Stacks.{shape_of};
 ghost use Rattle.pieces.specs.Questions.{inside, joined_in};
 
-use super::parts::Parts;
 use plane::types::Place;
 use search::places::Question;
 use solid::types::{Steps, Told};
@@ -56,19 +55,19 @@ impl Join for Overlap {
 /// Two parts, and how their answers are joined.
 #[derive(Drop)]
 pub struct Joined<'s, J> {
-    pub parts: &'s Parts<'s>,
+    pub first: Steps<'s>,
+    pub second: Steps<'s>,
     pub join: J,
 }
 
 impl<'s, J: Join> Question for Joined<'s, J> {
-    ghost asked = { λ d q. joined_in J.joined (shape_of d.parts.now.first) (shape_of d.parts.now.second) q };
+    ghost asked = { λ d q. joined_in J.joined (shape_of d.first.words.now) (shape_of d.second.words.now) q };
 
-    ghost ready = { λ d n. (length d.parts.now.first ≤ n) × (length d.parts.now.second ≤ n) };
+    ghost ready = { λ d n. (length d.first.words.now ≤ n) × (length d.second.words.now ≤ n) };
 
     fn holds_at(&self, q: Place, work: &mut [u64]) -> bool {
-        let parts = self.parts;
-        let first = is_inside(parts.first, q, work);
-        let second = is_inside(parts.second, q, work);
+        let first = is_inside(self.first, q, work);
+        let second = is_inside(self.second, q, work);
         self.join.join(first, second)
     }
 }
