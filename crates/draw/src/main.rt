@@ -55,6 +55,7 @@ fn run(rt: &HostRuntime) -> Result<(), Stop> {
     let mut steps = words(rt, count)?;
     let mut work = words(rt, WORK_NEEDED)?;
     let drawing = Drawing::read(&text, &mut steps)?;
+    // By their numbers, as `tell` is asked.
     for k in 0..drawing.questions() {
         if let Some(reply) = drawing.tell(k, &mut work)? {
             rt.println(&reply).map_err(anyhow::Error::from)?;

@@ -22,6 +22,7 @@ pub enum Refused {
 
 impl Refused {
     /// The refusal's number.
+    // Users know refusals by these numbers, so they are told as such.
     pub fn number(self) -> usize
         ensures { result ≡ (number_and_place self).number }
     {

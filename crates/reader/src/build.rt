@@ -170,6 +170,7 @@ pub(crate) fn build<'w>(
         steps: LentList::new(steps),
         asked: LentList::new(asked),
     };
+    // A copy: words in a model don't tell where they are, so the type isn't `Copy`.
     let mut rest = found.tokens.behind(0);
     while !rest.is_empty() {
         if rest.at(0) == b"part".as_slice() {

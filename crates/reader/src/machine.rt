@@ -15,6 +15,8 @@ use grammar::types::{Kind, Sep};
 /// A number that a space ends.
 const NUMBER: Want = Want::Number(Number::Start, Sep::Space);
 
+// Each asks for as much room as its longest table has: words are lent, so the stack can't grow.
+
 /// A byte where a line may begin.
 fn at_line(stack: &mut Stack<'_>, b: u8) -> Option<()>
     requires empty { stack.old.wants ≡ [] }

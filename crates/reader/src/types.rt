@@ -45,6 +45,7 @@ pub struct Layout<'w> {
 }
 
 /// Why a text is refused, and at which byte.
+// With the byte beside the kind, a match that tells both would name both.
 #[derive(Clone, Copy, PartialEq, Eq, Debug)]
 pub enum Refusal {
     /// No text goes on so, or a word that is not taken yet.

@@ -54,6 +54,8 @@ impl<'q, 'w, Q: Question> Asker<'q, 'w, Q> {
     }
 }
 
+// Words are lent anew for each call of both, so both ask for their number.
+
 /// A place on none of the planes for which the question holds, if there is one. The question depends on nothing
 /// but the sides of the planes; `lent` has three words for each plane and three more, and `work` what the question wants.
 pub fn find<Q: Question>(

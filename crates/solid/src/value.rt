@@ -141,6 +141,7 @@ impl Step {
     }
 }
 
+// The words for the work are lent anew for each call, so each call asks for their number.
 impl Steps<'_> {
     /// Whether the place is in the shape; `work` has room for a value for each step.
     pub fn holds_at(self, q: Place, work: &mut [u64]) -> bool
