@@ -2,12 +2,13 @@
 --     number_some, number_slope, number_is,
 --     number_none                                    the number of a plane along an axis
 --     slope_size, number_short, then_short           how large slopes and numbers are
+--     turned_level                                   a level plane turned round is level
 --     axis_of, Only, number_only                     each level plane has an axis, and no slope along the others
 --     rise, height_along                             how far a place is past a number, and the plane's height by that
 --     on-rise, rise-on                               on the plane: at its number
 --     along_only, only_turned, way, ways,
 --     same_way-along                                 level planes of one axis lie the same way, or turned
-use Rattle.std.proofs.Common.{◌≡◌, ℕ, zero, suc, ◌≤◌, Bool, true, false, ◌&&◌, ◌⊎◌, ℤ, pos, negsuc, ◌-ℤ◌, ◌*ℤ◌, neg_ℤ, nat_abs, ◌<ℤ◌, IfSome, Some, None, sym, refl, ap, ◌∙◌, subst, inl, inr, arith}
+use Rattle.std.proofs.Common.{◌≡◌, ℕ, zero, suc, ◌+◌, ◌≤◌, Bool, true, false, ◌&&◌, ◌⊎◌, ℤ, pos, negsuc, ◌-ℤ◌, ◌*ℤ◌, neg_ℤ, nat_abs, ◌<ℤ◌, IfSome, Some, None, sym, refl, ap, ◌∙◌, subst, ap₂, inl, inr, arith}
 use lib.IntN.{*ℤ-zero}
 use lib.Signed.{lt_z}
 use Rattle.std.proofs.lemmas.Int.{ints}
@@ -186,6 +187,15 @@ unfolding turned
 slope_turned X p = refl
 slope_turned Y p = refl
 slope_turned Z p = refl
+
+size_neg : (z : ℤ) → nat_abs (neg_ℤ z) ≡ nat_abs z
+size_neg (pos zero) = refl
+size_neg (pos (suc n)) = refl
+size_neg (negsuc n) = refl
+
+pub turned_level : (p : Plane) → Level p → Level (turned p)
+unfolding turned
+turned_level p l = ap₂ ◌+◌ (ap₂ ◌+◌ (size_neg p.a) (size_neg p.b)) (size_neg p.c) ∙ l
 
 pub only_turned : (x : Axis) (p : Plane) → Only x p → Only x (turned p)
 unfolding turned
