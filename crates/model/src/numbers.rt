@@ -1,5 +1,5 @@
 //! Numbers as bytes: those of things without a sign, all others in two's complement.
-// An impl a number: std has `to_le_bytes` and `from_le_bytes` in no trait, and a macro may not write impls here.
+// An impl a number: std has `to_le_bytes` and `from_le_bytes` in no trait, and a macro writes no ghost member.
 
 ghost use Rattle.std.specs.Prelude.{◌^◌, ◌<◌, FitsSigned};
 ghost use Rattle.std.specs.Int.{w8, w16, w32, w64};

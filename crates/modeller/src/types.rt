@@ -36,6 +36,7 @@ impl Refused {
     }
 
     /// Where it is refused.
+    // Users know the place beside the number; of too few words it says which.
     pub fn place(self) -> usize
         ensures { result ≡ (number_and_place self).place }
     {

@@ -50,6 +50,7 @@ fn plane_of(n: u64) -> Plane
 }
 
 /// The number of a plane.
+// No `From`: neither type is of this crate, and a plane out of range has no number.
 #[tactic(auto, unfolding(crate::specs::Steps::plane_number))]
 fn number_of(p: Plane) -> u64
     requires plane { FitsPlane p }
