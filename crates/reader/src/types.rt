@@ -45,7 +45,7 @@ pub struct Layout<'w> {
 }
 
 /// Why a text is refused, and at which byte.
-// With the byte beside the kind, a match that tells both would name both.
+// A struct of the kind and the byte would be no plainer: who matches on the kind wants the byte too.
 #[derive(Clone, Copy, PartialEq, Eq, Debug)]
 pub enum Refusal {
     /// No text goes on so, or a word that is not taken yet.
