@@ -1,5 +1,5 @@
 -- What the code puts together from numbers is what the numbers make.
-use Rattle.std.proofs.Common.{◌≡◌, ℕ, List, [], ◌∷◌, map, length, Some, sym, ap, ◌∙◌, subst, arith}
+use Rattle.std.proofs.Common.{◌≡◌, ℕ, ◌<◌, List, [], ◌∷◌, map, length, get_or, Some, sym, ap, ◌∙◌, subst, arith}
 use Rattle.std.specs.List.{AllByRecursion}
 use Rattle.std.specs.Iterator.{Yields}
 use Rattle.std.specs.Array.{list_steps, IsMapOf}
@@ -8,6 +8,7 @@ use Rattle.std.proofs.lemmas.List.{same_lists, length-map, get_or-map}
 use Rattle.plane.specs.declared.types.Plane.{Plane}
 use Rattle.plane.specs.declared.types.Place.{Place}
 use Rattle.plane.specs.Moves.{rolled_plane, rolled_place}
+use Rattle.solid.specs.Shapes.{At}
 use Rattle.solid.specs.Models.{Face}
 use Rattle.faces.specs.Blocks.{rolled_face}
 
@@ -49,3 +50,7 @@ pub mapped : {F A B : Type 0} (g : Mut F (A × Unit {0}) B) (s : F) (f : A → B
 mapped g s f xs ys n d h l m =
     same_lists ys (map f xs) (m.long ∙ sym l ∙ sym (length-map xs f))
     (λ k e i. let r = m.at k d e (omega (arith, m.long)) in h _ _ _ _ r.2 ∙ sym (get_or-map f xs k d e (omega (arith, m.long))))
+
+-- what stands at a number that is known
+pub stands : {A : Type 0} (xs : List A) (n k : ℕ) (x : A) → k ≡ n → n < length xs → get_or xs n x ≡ x → At xs k x
+stands xs n k x e h i = subst (λ (m : ℕ). At xs m x) (sym e) (h, i)

@@ -1,10 +1,11 @@
 //! The faces of a block. Those across x are made as such, and the others as faces across x that are turned
 //! from x to y to z to x.
 
-ghost use Rattle.std.specs.Prelude.{◌≡◌, [], ◌∷◌};
+ghost use Rattle.std.specs.Prelude.{◌≡◌, ◌<◌, [], ◌∷◌};
 ghost use Rattle.arith.specs.Bounds.{Short};
 ghost use Rattle.plane.specs.Limits.{reach};
 ghost use Rattle.plane.specs.Moves.{rolled_place};
+ghost use Rattle.solid.specs.Shapes.{At};
 ghost use Rattle.faces.specs.Blocks.{middle_at, round_at, high_face, low_face, rolled_face, rolled_back, block_faces};
 
 use super::types::{Block, Bounds, Rectangle};
@@ -125,5 +126,21 @@ impl Block {
             up.rolled().rolled(),
             down.rolled().rolled(),
         ]
+    }
+
+    /// One face of a block, by its number among them; the others are not made.
+    pub fn face(self, k: usize) -> Rectangle
+        requires { k < 6 }
+        ensures { At (block_faces self) k result }
+    {
+        let c = self.rolled_back();
+        match k {
+            0 => self.ends()[0],
+            1 => self.ends()[1],
+            2 => c.ends()[0].rolled(),
+            3 => c.ends()[1].rolled(),
+            4 => c.rolled_back().ends()[0].rolled().rolled(),
+            _ => c.rolled_back().ends()[1].rolled().rolled(),
+        }
     }
 }

@@ -62,7 +62,7 @@ value_below (b ∷ bs) h =
     omega arith
 
 -- the k bytes of n from the one of weight w on
-abbrev from_weight : ℕ → ℕ → ℕ → List ℕ
+abbrev pub from_weight : ℕ → ℕ → ℕ → List ℕ
 from_weight zero w n = []
 from_weight (suc k) w n = (n / w % 256) ∷ from_weight k (w * 256) n
 
@@ -72,7 +72,7 @@ low_first_from (suc k) w n =
     ap (λ (x : List ℕ). (n / w % 256) ∷ x) (ap (low_first k) (div-div-eq-div-mul n w 256) ∙ low_first_from k (w * 256) n)
 
 -- a number's bytes, each by its weight
-by_weight : (k n : ℕ) → low_first (suc k) n ≡ (n % 256) ∷ from_weight k 256 n
+pub by_weight : (k n : ℕ) → low_first (suc k) n ≡ (n % 256) ∷ from_weight k 256 n
 by_weight k n = ap (λ (x : List ℕ). (n % 256) ∷ x) (low_first_from k 256 n)
 
 -- the library's bytes of a number

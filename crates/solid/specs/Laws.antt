@@ -1,11 +1,13 @@
 -- What holds of shapes and models as such. Each is a statement; functions of this crate have them in their contracts.
-use Rattle.std.specs.Prelude.{◌≡◌, ℕ, ◌<◌, false, []}
+use Rattle.std.specs.Prelude.{◌≡◌, ℕ, ◌*◌, ◌<◌, false, ◌&&◌, ◌||◌, [], unsigned_abs, nat_eq, nat_lt}
 use Rattle.plane.specs.declared.types.Plane.{Plane}
 use Rattle.plane.specs.declared.types.Place.{Place}
 use Rattle.plane.specs.declared.types.Shift.{Shift}
+use Rattle.plane.specs.Limits.{reach}
 use Rattle.plane.specs.Planes.{scaled}
 use Rattle.plane.specs.Moves.{moved_plane, moved_place, mirrored_plane, mirrored_place, swapped_plane, swapped_place, rolled_plane, rolled_place}
-use Rattle.solid.specs.Shapes.{Shape, holds, with_planes, Clear}
+use Rattle.solid.specs.Shapes.{Shape, holds, planes, workshop, with_planes, Clear}
+use Rattle.solid.specs.Examples.{on_some}
 use Rattle.solid.specs.Models.{Model, Right}
 
 -- only a shape with nothing in it has a right model without pieces
@@ -26,3 +28,9 @@ pub record MovesRight : Type 0 where
 -- a place in other terms is the same place
 abbrev pub OnePlace : Type 0
 OnePlace = (s : Shape) (q : Place) (k : ℕ) → 0 < k → holds s (scaled k q) ≡ holds s q
+
+-- the workshop ends at its reach in all six directions: a place is in it if no coordinate is as far as that, and on one of
+-- its planes if one is just as far
+pub record WorkshopEnds : Type 0 where
+  pub inside : (q : Place) → holds workshop q ≡ ((nat_lt (unsigned_abs q.x) (reach * q.w) && nat_lt (unsigned_abs q.y) (reach * q.w)) && nat_lt (unsigned_abs q.z) (reach * q.w))
+  pub on_end : (q : Place) → on_some (planes workshop) q ≡ ((nat_eq (unsigned_abs q.x) (reach * q.w) || nat_eq (unsigned_abs q.y) (reach * q.w)) || nat_eq (unsigned_abs q.z) (reach * q.w))
