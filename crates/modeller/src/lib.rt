@@ -61,7 +61,11 @@ impl<'t, 's> Drawing<'t, 's> {
             names,
             spots,
         };
-        let layout = reader::read(text, room, steps, asked)?;
+        let counts = reader::read(text, room, steps, asked)?;
+        let layout = Layout {
+            steps: &steps[..counts.used],
+            asked: &asked[..QUESTION_WORDS * counts.asked],
+        };
         Ok(Drawing { text, layout })
     }
 

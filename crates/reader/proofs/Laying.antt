@@ -1,20 +1,36 @@
 -- The pass over the lines that lays them into words.
 --     starts, part_laid, place_laid, ends      before the first line, after a part's, after a place's, and behind the last
 --     part_there, place_there                  the line that comes next
+--     lines_in, front_length                   the words at the front of slices, as lists
 use Rattle.std.proofs.Common.{◌≡◌, ℕ, ◌+◌, ◌*◌, ◌/◌, ◌<◌, ◌≤◌, true, false, List, [], ◌∷◌, ◌++◌, length, get_or, take, drop, ℤ, nat_abs, codes, sym, refl, ap, ◌∙◌, subst, append_assoc, append-nil, zero-add, arith, w64, of_z}
-use Rattle.std.proofs.lemmas.List.{take_at, drop_more, length-append, length-drop, length-map, map_push}
+use Rattle.std.proofs.lemmas.List.{take_at, drop_more, length-append, length-take, length-drop, length-map, map_push}
 use Rattle.solid.specs.Shapes.{box as box_of}
 use Rattle.solid.specs.Steps.{words}
 use Rattle.lent.specs.Lists.{Held}
 use Rattle.grammar.specs.Grammar.{box, Name, Line, part, place, same_as, meet, model, same}
 use Rattle.grammar.specs.Tokens.{code_of}
 use Rattle.grammar.specs.Meaning.{Part, questions, fine}
-use Rattle.reader.specs.declared.build.Lines.{Lines}
+use Rattle.reader.specs.declared.types.Counts.{Counts}
 use Rattle.reader.specs.Layout.{Taken, part_names, part_steps, spot, asked_words}
 use Rattle.reader.specs.Lines.{PartAt, steps_at, pair_of, PlaceAt, question_at}
 use Rattle.reader.proofs.Numbers.{box_length}
 use Rattle.reader.proofs.Spots.{names_of, steps_of, spots_of, steps_push, spots_push, spots_length, spot_length, spot_pair}
 use Rattle.reader.proofs.Next.{part_sound, Sound, place_sound, PartNext, PlaceNext, Next, next, next_part, next_place}
+
+-- what the lines are laid into, as lists
+pub record Lines : Type 0 where
+  pub spots : Held ℕ
+  pub steps : Held ℕ
+  pub asked : Held ℕ
+
+-- where steps and questions lie at the front of slices, as many as are counted
+abbrev pub lines_in : Held ℕ → Counts → List ℕ → List ℕ → Lines
+lines_in spots n steps asked =
+    record { spots = spots; steps = record { items = take n.used steps; room = length steps }; asked = record { items = take (6 * n.asked) asked; room = length asked } }
+
+-- how many words are at the front
+pub front_length : (n : ℕ) (xs : List ℕ) → n ≤ length xs → length (take n xs) ≡ n
+front_length n xs h = omega (arith, length-take n xs)
 
 -- all lines but those that are left are laid
 pub record State (lines : List Line) (names rest : List (List ℕ)) (l : Lines) (left : List Line) : Type 0 where
@@ -221,11 +237,11 @@ module _ {lines : List Line} {tokens names rest : List (List ℕ)} {l : Lines} (
   parts_even m e = omega (arith, ap length g.state.spots_are, spots_length 0 g.state.before)
 
   -- no line is left
-  pub ends : length rest ≤ 0 → (steps asked : List ℕ) → steps ≡ l.steps.items → asked ≡ l.asked.items → (steps ≡ part_steps [] lines) × (asked ≡ asked_words [] lines) × (length asked ≡ 6 * length (questions [] lines))
-  ends h steps asked es ea =
+  pub ends : length rest ≤ 0 → (l.steps.items ≡ part_steps [] lines) × (l.asked.items ≡ asked_words [] lines) × (length l.asked.items ≡ 6 * length (questions [] lines))
+  ends h =
       let none : rest ≡ [] = no_more rest h in
       let s = subst (λ (ls : List Line). State lines names rest l ls) (none_left g.left (sym none ∙ g.state.read)) g.state in
-      (es ∙ s.steps_are ∙ sym (append-nil (steps_of s.before)) ∙ s.steps_left, ea ∙ sym (append-nil l.asked.items) ∙ s.asked_left, omega (arith, ap length ea, s.count_is))
+      (s.steps_are ∙ sym (append-nil (steps_of s.before)) ∙ s.steps_left, sym (append-nil l.asked.items) ∙ s.asked_left, omega (arith, s.count_is))
     where
       no_more : (ws : List (List ℕ)) → length ws ≤ 0 → ws ≡ []
       no_more [] k = refl

@@ -1,10 +1,11 @@
 -- How a text that is taken lies in words: the steps of its parts, one part behind the other, and its questions, six words each.
-use Rattle.std.specs.Prelude.{◌≡◌, ℕ, ◌+◌, ◌*◌, true, cond, List, [], ◌∷◌, ◌++◌, length, unsigned_abs}
+use Rattle.std.specs.Prelude.{◌≡◌, ℕ, ◌+◌, ◌*◌, ◌≤◌, true, cond, List, [], ◌∷◌, ◌++◌, length, take, unsigned_abs}
 use Rattle.std.specs.Int.{w64, cast_unsigned}
 use Rattle.solid.specs.Steps.{words}
 use Rattle.grammar.specs.Grammar.{Name, Expr, Line, part, place, same_as, meet, model, same}
 use Rattle.grammar.specs.Tokens.{code_of}
 use Rattle.grammar.specs.Meaning.{Part, says, questions, fine}
+use Rattle.reader.specs.declared.types.Counts.{Counts}
 use Rattle.reader.specs.declared.types.Layout.{Layout}
 
 -- the parts after one more
@@ -55,3 +56,11 @@ pub record Laid (ls : List Line) (l : Layout) : Type 0 where
   pub steps_are : l.steps.now ≡ part_steps [] ls
   pub asked_are : l.asked.now ≡ asked_words [] ls
   pub count : length l.asked.now ≡ 6 * length (questions [] ls)
+
+-- the words at the front of what is lent, as many as are counted, hold what the lines say
+pub record LaidIn (ls : List Line) (n : Counts) (steps asked : List ℕ) : Type 0 where
+  pub steps_are : take n.used steps ≡ part_steps [] ls
+  pub used_fits : n.used ≤ length steps
+  pub asked_are : take (6 * n.asked) asked ≡ asked_words [] ls
+  pub asked_fits : 6 * n.asked ≤ length asked
+  pub count : n.asked ≡ length (questions [] ls)

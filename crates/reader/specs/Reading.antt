@@ -7,9 +7,9 @@ use Rattle.grammar.specs.Tokens.{starts_from}
 use Rattle.reader.specs.Names.{words_at}
 use Rattle.reader.specs.declared.word_list.Found.{Found}
 use Rattle.reader.specs.declared.types.Refusal.{Refusal}
-use Rattle.reader.specs.declared.types.Layout.{Layout}
+use Rattle.reader.specs.declared.types.Counts.{Counts}
 use Rattle.reader.specs.declared.types.Room.{Room}
-use Rattle.reader.specs.Layout.{Taken, Laid}
+use Rattle.reader.specs.Layout.{Taken, LaidIn}
 use Rattle.reader.specs.Scan.{told, named_in}
 
 -- what the grammar says of bytes: they are a text, or none goes on so at this byte
@@ -43,9 +43,9 @@ Examined (Ok f) bs = (t : Taken f.tokens f.names) × (bs ≡ print t.lines) × (
 Examined (Err r) bs = FirstFault bs (told r)
 
 -- a text that is taken lies in words; or its first fault is told
-abbrev pub Read : Result Layout Refusal → List ℕ → Type 0
-Read (Ok l) bs = (ls : List Line) × (bs ≡ print ls) × (fine [] ls ≡ true) × Laid ls l
-Read (Err r) bs = FirstFault bs (told r)
+abbrev pub Read : Result Counts Refusal → List ℕ → List ℕ → List ℕ → Type 0
+Read (Ok n) bs steps asked = (ls : List Line) × (bs ≡ print ls) × (fine [] ls ≡ true) × LaidIn ls n steps asked
+Read (Err r) bs steps asked = FirstFault bs (told r)
 
 -- lent words that are enough for a text
 pub record Enough (text : List ℕ) (room : Room) : Type 0 where

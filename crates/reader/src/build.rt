@@ -1,17 +1,18 @@
 //! A text that is taken, laid into words: the steps of its parts, and its questions.
 
-ghost use Rattle.std.specs.Prelude.{◌≡◌, ◌+◌, ◌*◌, ◌/◌, ◌<◌, ◌≤◌, [], ◌∷◌, ◌++◌, length, take, drop, ℤ};
+ghost use Rattle.std.specs.Prelude.{◌≡◌, ℕ, Ok, ◌+◌, ◌*◌, ◌/◌, ◌<◌, ◌≤◌, List, [], ◌∷◌, ◌++◌, length, take, drop, ℤ};
 ghost use Rattle.arith.specs.Bounds.{Short};
 ghost use Rattle.plane.specs.Limits.{FitsPlane};
 ghost use Rattle.solid.specs.Shapes.{plane, box};
 ghost use Rattle.solid.specs.Steps.{word, words};
 ghost use Rattle.grammar.specs.Grammar.{signed};
 ghost use Rattle.grammar.specs.Values.{number_limit};
-ghost use Rattle.reader.specs.Layout.{Taken, Laid};
+ghost use Rattle.reader.specs.Layout.{Taken};
+ghost use Rattle.reader.specs.Reading.{Examined, Read};
 ghost use Rattle.reader.specs.Lines.{PartAt, steps_at, pair_of, PlaceAt, question_at};
 
 use super::tokens::number_of;
-use super::types::{Layout, QUESTION_WORDS};
+use super::types::{Counts, QUESTION_WORDS};
 use super::word_list::{Found, WordList};
 use lent::LentList;
 use plane::types::Plane;
@@ -98,91 +99,76 @@ fn spot_of(names: &WordList<'_>, spots: &[u64], name: &[u8]) -> [u64; 2]
     }
 }
 
-/// Lines, as they are laid into words: where the steps of each part begin and how many they are, the steps of all
-/// parts, and the questions. Words are all the memory that is lent, so a part is two of them and a question six.
-#[derive(Drop)]
-struct Lines<'k, 'w> {
-    spots: LentList<'k, u64>,
-    steps: LentList<'w, u64>,
-    asked: LentList<'w, u64>,
+/// Lays a part's line: its steps behind those that are used, and where they are behind the spots of the parts before it.
+fn lay_part(line: &WordList<'_>, used: usize, spots: &mut LentList<'_, u64>, steps: &mut [u64])
+    requires taken { PartAt line.now }
+    requires spots_room { length spots.old.items + 2 ≤ spots.old.room }
+    requires steps_room { used + 11 ≤ length steps.old }
+    ensures spots { spots.new.items ≡ spots.old.items ++ used ∷ 11 ∷ [] }
+    ensures steps { (p : PartAt line.now) → take (used + 11) steps.new ≡ take used steps.old ++ steps_at p }
+    ensures room { spots.new.room ≡ spots.old.room }
+{
+    spots.push(used as u64);
+    spots.push(BOX_STEPS as u64);
+    steps[used..used + BOX_STEPS].copy_from_slice(&box_of(line));
 }
 
-impl<'k, 'w> Lines<'k, 'w> {
-    /// Of how many parts the lines are laid.
-    fn parts(&self) -> usize
-        ensures { result ≡ length self.now.spots.items / 2 }
-    {
-        self.spots.len() / 2
-    }
-
-    /// Lays a part's line.
-    fn part(&mut self, line: &WordList<'_>)
-        requires taken { PartAt line.now }
-        requires spots_room { length self.old.spots.items + 2 ≤ self.old.spots.room }
-        requires steps_room { length self.old.steps.items + 11 ≤ self.old.steps.room }
-        ensures spots { self.new.spots.items ≡ self.old.spots.items ++ length self.old.steps.items ∷ 11 ∷ [] }
-        ensures steps { (p : PartAt line.now) → self.new.steps.items ≡ self.old.steps.items ++ steps_at p }
-        ensures rooms { (self.new.spots.room ≡ self.old.spots.room) × (self.new.steps.room ≡ self.old.steps.room) }
-        ensures asked { self.new.asked ≡ self.old.asked }
-    {
-        self.spots.push(self.steps.len() as u64);
-        self.spots.push(BOX_STEPS as u64);
-        self.steps.extend_from_slice(&box_of(line));
-    }
-
-    /// Lays the line of a question about a place, behind parts of some names.
-    fn place(&mut self, line: &WordList<'_>, names: &WordList<'_>)
-        requires taken { PlaceAt line.now }
-        requires spots { 2 * length names.now ≤ length self.old.spots.items }
-        requires room { length self.old.asked.items + 6 ≤ self.old.asked.room }
-        ensures asked { (p : PlaceAt line.now) → self.new.asked.items ≡ self.old.asked.items ++ question_at names.now self.old.spots.items p }
-        ensures room { self.new.asked.room ≡ self.old.asked.room }
-        ensures others { (self.new.spots ≡ self.old.spots) × (self.new.steps ≡ self.old.steps) }
-    {
-        let [from, count] = spot_of(names, self.spots.as_slice(), line.at(1));
-        let question: [u64; QUESTION_WORDS] = [
-            from,
-            count,
-            number(line.at(2)).cast_unsigned(),
-            number(line.at(3)).cast_unsigned(),
-            number(line.at(4)).cast_unsigned(),
-            number(line.at(5)).cast_unsigned(),
-        ];
-        self.asked.extend_from_slice(&question);
-    }
+/// Lays the line of a question about a place behind the first `count` questions, where each of some names has a spot.
+fn lay_place(
+    line: &WordList<'_>,
+    names: &WordList<'_>,
+    spots: &[u64],
+    count: usize,
+    asked: &mut [u64],
+)
+    requires taken { PlaceAt line.now }
+    requires spots { 2 * length names.now ≤ length spots.now }
+    requires room { 6 * count + 6 ≤ length asked.old }
+    ensures { (p : PlaceAt line.now) → take (6 * count + 6) asked.new ≡ take (6 * count) asked.old ++ question_at names.now spots.now p }
+{
+    let [from, steps] = spot_of(names, spots, line.at(1));
+    let question: [u64; QUESTION_WORDS] = [
+        from,
+        steps,
+        number(line.at(2)).cast_unsigned(),
+        number(line.at(3)).cast_unsigned(),
+        number(line.at(4)).cast_unsigned(),
+        number(line.at(5)).cast_unsigned(),
+    ];
+    let start = QUESTION_WORDS * count;
+    asked[start..start + QUESTION_WORDS].copy_from_slice(&question);
 }
 
-/// Lays a text that is taken into words: the steps of its parts, and its questions.
-pub(crate) fn build<'w>(
+/// Lays a text that is taken into words: the steps of its parts, and its questions. Words are all the memory that is
+/// lent, so a part is two of them and a question six.
+// Steps and questions in no `LentList`: when the call is over, the caller's own slices tell what they hold.
+pub(crate) fn build(
     found: &Found<'_>,
     spots: &mut [u64],
-    steps: &'w mut [u64],
-    asked: &'w mut [u64],
-) -> Layout<'w>
+    steps: &mut [u64],
+    asked: &mut [u64],
+) -> Counts
     requires taken { Taken found.now.tokens found.now.names }
     requires spots_room { length found.now.tokens ≤ length spots.old }
     requires steps_room { 2 * length found.now.tokens ≤ length steps.old }
     requires asked_room { length found.now.tokens ≤ length asked.old }
-    ensures { (t : Taken found.now.tokens found.now.names) → Laid t.lines result }
+    ensures { (text : List ℕ) → Examined (Ok found.now) text → Read (Ok result) text steps.new asked.new }
 {
-    let mut lines = Lines {
-        spots: LentList::new(spots),
-        steps: LentList::new(steps),
-        asked: LentList::new(asked),
-    };
+    let mut spots = LentList::new(spots);
+    let mut laid = Counts { used: 0, asked: 0 };
     // A copy: words in a model don't tell where they are, so the type isn't `Copy`.
     let mut rest = found.tokens.behind(0);
     while !rest.is_empty() {
         if rest.at(0) == b"part".as_slice() {
-            lines.part(&rest);
+            lay_part(&rest, laid.used, &mut spots, steps);
+            laid.used += BOX_STEPS;
             rest = rest.behind(PART_TOKENS);
         } else {
-            lines.place(&rest, &found.names.first(lines.parts()));
+            let names = found.names.first(spots.len() / 2);
+            lay_place(&rest, &names, spots.as_slice(), laid.asked, asked);
+            laid.asked += 1;
             rest = rest.behind(PLACE_TOKENS);
         }
     }
-    Layout {
-        steps: lines.steps.into_slice(),
-        asked: lines.asked.into_slice(),
-    }
+    laid
 }

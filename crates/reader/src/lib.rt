@@ -18,19 +18,20 @@ mod word_list;
 
 use build::build;
 use examine::examine;
-use types::{Layout, Refusal, Room};
+use types::{Counts, Refusal, Room};
 
-/// Reads a text: lays the steps of its parts and its questions into lent words, or tells its first fault.
-pub fn read<'w>(
+/// Reads a text: lays the steps of its parts into `steps` and its questions into `asked`, or tells its first
+/// fault. All words are lent for the call alone.
+pub fn read(
     text: &[u8],
     room: Room<'_>,
-    steps: &'w mut [u64],
-    asked: &'w mut [u64],
-) -> Result<Layout<'w>, Refusal>
+    steps: &mut [u64],
+    asked: &mut [u64],
+) -> Result<Counts, Refusal>
     requires work { Enough text.now room }
     requires steps { 2 * length text.now ≤ length steps.old }
     requires asked { length text.now ≤ length asked.old }
-    ensures { Read result text.now }
+    ensures { Read result text.now steps.new asked.new }
 {
     let Room {
         stack,

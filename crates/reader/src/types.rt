@@ -37,6 +37,14 @@ pub struct Room<'k> {
 /// How many words a question has: where its part's steps begin and how many they are, then x, y, z and w of its place.
 pub const QUESTION_WORDS: usize = 6;
 
+/// What a text that is taken has: how many steps its parts have in all, and how many questions it asks.
+// Counts and no slices: those would keep what is lent for as long as they live.
+#[derive(Clone, Copy, Debug, PartialEq, Eq)]
+pub struct Counts {
+    pub used: usize,
+    pub asked: usize,
+}
+
 /// What a text that is taken lies in: the steps of its parts, one part behind the other, and its questions.
 #[derive(Clone, Copy)]
 pub struct Layout<'w> {
