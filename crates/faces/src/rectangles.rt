@@ -128,7 +128,7 @@ impl Block {
         ]
     }
 
-    /// One face of a block, by its number among them; the others are not made.
+    /// One face of a block: those toward more x and less x are 0 and 1, then those across y, then z.
     pub fn face(self, k: usize) -> Rectangle
         requires { k < 6 }
         ensures { At (block_faces self) k result }

@@ -29,8 +29,8 @@ pub record MovesRight : Type 0 where
 abbrev pub OnePlace : Type 0
 OnePlace = (s : Shape) (q : Place) (k : ℕ) → 0 < k → holds s (scaled k q) ≡ holds s q
 
--- the workshop ends at its reach in all six directions: a place is in it if no coordinate is as far as that, and on one of
--- its planes if one is just as far
+-- the workshop ends at its reach in all six directions: a place is in it exactly if no coordinate is as far as that, and on
+-- one of its planes exactly if a coordinate is just as far
 pub record WorkshopEnds : Type 0 where
   pub inside : (q : Place) → holds workshop q ≡ ((nat_lt (unsigned_abs q.x) (reach * q.w) && nat_lt (unsigned_abs q.y) (reach * q.w)) && nat_lt (unsigned_abs q.z) (reach * q.w))
   pub on_end : (q : Place) → on_some (planes workshop) q ≡ ((nat_eq (unsigned_abs q.x) (reach * q.w) || nat_eq (unsigned_abs q.y) (reach * q.w)) || nat_eq (unsigned_abs q.z) (reach * q.w))
