@@ -24,7 +24,7 @@ use types::{Counts, Refusal, Room};
 /// fault. All words are lent for the call alone.
 pub fn read(
     text: &[u8],
-    room: Room<'_>,
+    room: Room<'_, '_, '_, '_>,
     steps: &mut [u64],
     asked: &mut [u64],
 ) -> Result<Counts, Refusal>

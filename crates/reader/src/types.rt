@@ -27,11 +27,11 @@ pub enum Want {
 /// The words that are lent for the work of reading a text.
 // Taken apart at once: each step of the reading borrows its own part, and asks for the room that it fills.
 #[derive(Drop)]
-pub struct Room<'k> {
+pub struct Room<'k, 't, 'n, 'p> {
     pub stack: &'k mut [u64],
-    pub tokens: &'k mut [u64],
-    pub names: &'k mut [u64],
-    pub spots: &'k mut [u64],
+    pub tokens: &'t mut [u64],
+    pub names: &'n mut [u64],
+    pub spots: &'p mut [u64],
 }
 
 /// How many words a question has: where its part's steps begin and how many they are, then x, y, z and w of its place.
