@@ -1,7 +1,7 @@
 //! The words and numbers of a text.
 
 ghost use Rattle.std.specs.Prelude.{◌≡◌, ◌≤◌, false, length, drop, ℤ};
-ghost use Rattle.grammar.specs.Grammar.{signed};
+ghost use Rattle.grammar.specs.Grammar.{same, signed};
 ghost use Rattle.grammar.specs.Tokens.{in_tok, starts_from, tok_at};
 ghost use Rattle.grammar.specs.Values.{read_on, Told, Value};
 ghost use Rattle.grammar.specs.Faults.{amount};
@@ -82,4 +82,13 @@ pub(crate) fn token_at(text: &[u8], from: usize) -> &[u8]
         .position(|b| !in_token(*b))
         .unwrap_or(behind.len());
     &behind[..end]
+}
+
+/// Whether the word or number that begins at a byte is this one.
+pub(crate) fn is_token_at(text: &[u8], from: usize, word: &[u8]) -> bool
+    requires { from ≤ length text.now }
+    ensures { result ≡ same word.now (tok_at (drop from text.now)) }
+{
+    // Its front first: few names that differ begin alike, and only of those that do is the end looked for.
+    text[from..].starts_with(word) && token_at(text, from) == word
 }

@@ -4,7 +4,7 @@ ghost use Rattle.std.specs.Prelude.{◌≡◌, ◌==◌, ◌<◌, ◌≤◌, [],
 ghost use Rattle.grammar.specs.Grammar.{one_of};
 ghost use Rattle.reader.specs.Names.{words_at, rank, InText};
 
-use super::tokens::token_at;
+use super::tokens::{is_token_at, token_at};
 use std::marker::Model;
 
 /// Words of a text, each by its first byte.
@@ -91,7 +91,7 @@ impl<'t> WordList<'t> {
     {
         self.starts
             .iter()
-            .position(|start| token_at(self.text, *start as usize) == word)
+            .position(|start| is_token_at(self.text, *start as usize, word))
     }
 
     /// Whether a word is among them.
