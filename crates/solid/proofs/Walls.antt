@@ -116,5 +116,18 @@ module _ (q : Place) where
         let at = λ (n m : ℕ) (e : n ≡ m). ap (λ (k : ℕ). ltb k end) e in
         ap₂ ◌&&◌ (ap₂ ◌&&◌ (at x _ ex ∙ sym (pair_in across_x q.x (wall_x q))) (at y _ ey ∙ sym (pair_in across_y q.y (wall_y q)))) (at z _ ez ∙ sym (pair_in across_z q.z (wall_z q)))
 
+-- three tests one after the other
+pub or_three : (a b c : Bool) → (a || (b || (c || false))) ≡ ((a || b) || c)
+or_three true b c = refl
+or_three false true c = refl
+or_three false false true = refl
+or_three false false false = refl
+
+pub and_three : (a b c : Bool) → (a && (b && (c && true))) ≡ ((a && b) && c)
+and_three true true true = refl
+and_three true true false = refl
+and_three true false c = refl
+and_three false b c = refl
+
 pub workshop_ends : WorkshopEnds
 workshop_ends = record { inside = λ q. sym (in_walls q _ _ _ refl refl refl); on_end = λ q. sym (on_walls q _ _ _ refl refl refl) }

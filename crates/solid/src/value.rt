@@ -37,7 +37,8 @@ fn on_walls(q: Place) -> bool
     requires { SmallPlace q }
     ensures { result ≡ on_some (planes workshop) q }
 {
-    walls().iter().any(|p| p.side_of(q) == Side::On)
+    let end = REACH * q.w;
+    [q.x, q.y, q.z].iter().any(|c| c.unsigned_abs() == end)
 }
 
 /// Whether the place is in the workshop.
@@ -45,7 +46,8 @@ fn in_walls(q: Place) -> bool
     requires { SmallPlace q }
     ensures { result ≡ holds workshop q }
 {
-    walls().iter().all(|p| p.side_of(q) == Side::Below)
+    let end = REACH * q.w;
+    [q.x, q.y, q.z].iter().all(|c| c.unsigned_abs() < end)
 }
 
 /// The values of the shapes on a stack at a place, the newest last. Each lies in a word: 1 where the shape holds the
